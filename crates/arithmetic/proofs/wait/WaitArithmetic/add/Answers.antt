@@ -1,0 +1,6 @@
+use native.Mathlib.Omega.{arith}
+use Rattle.arithmetic.specs.Capped.{same-capped}
+use Rattle.arithmetic.proofs.wait.WaitArithmetic.add.Needs as need
+
+pub returns : need.returns
+returns c = same-capped _ _ (omega arith)
