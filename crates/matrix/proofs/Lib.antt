@@ -1,0 +1,5 @@
+pub mod Sums
+pub mod Tables
+pub mod Vectors
+pub mod Bags
+pub mod Meant

@@ -1,0 +1,4 @@
+pub mod Tables
+pub mod Vectors
+pub mod Bags
+pub mod Laws

@@ -1,0 +1,5 @@
+mod refusal;
+mod weighing;
+
+pub use refusal::Refusal;
+pub use weighing::weigh;
