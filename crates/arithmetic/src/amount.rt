@@ -22,7 +22,8 @@ impl Amount {
     pub fn value(self) -> u32
         ensures { λ r. ⌜ amount-figures .meaning self ≡ quantity r ⌝ }
     {
-        self.value
+        let Amount { value } = self;
+        value
     }
 }
 

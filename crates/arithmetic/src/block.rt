@@ -1,4 +1,7 @@
+ghost use lib.Chars.{codes};
 ghost use mathlib.Core.Bool.{false};
+ghost use Rattle.std.specs.declared.option.Option.the-variants.{Some};
+ghost use Rattle.std.specs.Written.{then};
 ghost use Rattle.arithmetic.specs.Squares.{block-figures};
 use crate::Arithmetic;
 use std::fmt;
@@ -68,6 +71,8 @@ pub impl<A: Arithmetic> Arithmetic for Block<A> as BlockArithmetic {
 }
 
 pub impl<A: fmt::Display> fmt::Display for Block<A> as BlockDisplay {
+    ghost shown = { λ b. then (Some (codes "(")) (then (A·Display .shown (b .p)) (then (Some (codes " ")) (then (A·Display .shown (b .q)) (then (Some (codes "; ")) (then (A·Display .shown (b .r)) (then (Some (codes " ")) (then (A·Display .shown (b .s)) (Some (codes ")"))))))))) };
+
     fn fmt<W: fmt::Write>(&self, f: &mut fmt::Formatter<W>) -> fmt::Result {
         let p = &self.p;
         let q = &self.q;

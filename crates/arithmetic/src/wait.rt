@@ -78,7 +78,7 @@ pub impl Arithmetic for Wait as WaitArithmetic {
     }
 
     fn is_zero(self) -> bool {
-        self.stored > LONGEST
+        LONGEST < self.stored
     }
 }
 
