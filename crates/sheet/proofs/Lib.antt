@@ -1,0 +1,6 @@
+pub mod Rows
+pub mod Columns
+pub mod Found
+pub mod Packs
+pub mod Same
+pub mod Sounds
