@@ -4,3 +4,5 @@ pub mod Found
 pub mod Packs
 pub mod Same
 pub mod Sounds
+pub mod Halves
+pub mod Laying

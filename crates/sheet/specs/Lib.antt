@@ -1,3 +1,5 @@
 pub mod Refusals
 pub mod Weighing
 pub mod Packed
+pub mod Checking
+pub mod Writing

@@ -1,0 +1,3 @@
+pub mod Passing
+pub mod Starts
+pub mod Early

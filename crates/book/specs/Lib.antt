@@ -1,0 +1,6 @@
+pub mod Limits
+pub mod Book
+pub mod Lines
+pub mod Checked
+pub mod Calls
+pub mod Lookups

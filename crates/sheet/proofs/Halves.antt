@@ -1,0 +1,35 @@
+-- A sheet that is being written: the starts of some rows, what was there, the cells of those rows, and the rest.
+use mathlib.Core.Path.{_≡_, refl, sym, ap, ap₂, _∙_}
+use mathlib.Core.List.{List, [], _∷_, _++_, map}
+use Prim.Native.Nat.{ℕ, zero, suc, _+_, _-_, _<_, _≤_, min}
+use native.Mathlib.Omega.{arith}
+use borrow.Author.Needs.{needs}
+use lib.ListN.{length, set, take, drop, getD}
+use Rattle.std.proofs.shelf.Lists.{places, same-lists, getD-set-same, length-append, length-take, length-drop, length-set}
+use Rattle.std.proofs.shelf.Tests.{cases-eq}
+use Rattle.sheet.specs.Writing.{placed}
+
+abbrev pub half : {A : Type 0} → List A → ℕ → ℕ → List A → List A → List A
+half d base n S J = take base d ++ (S ++ (take (n + 1 - length S) (drop (base + length S) d) ++ (J ++ drop (base + (n + 1) + length J) d)))
+
+module _ {A : Type 0} (d : List A) (base n : ℕ) where
+  pub half-none : base + (n + 1) ≤ length d → half d base n [] [] ≡ d
+  half-none room = same-lists _ _ (search (needs, places)) (λ k e h. grind (arith, places))
+
+  -- one more start
+  pub half-mark : (S J : List A) (x : A) → length S ≤ n → base + (n + 1) + length J ≤ length d → set (half d base n S J) (base + length S) x ≡ half d base n (S ++ x ∷ []) J
+  half-mark S J x short room = same-lists _ _ (search (needs, places)) (λ k e h. grind (arith, places, getD-set-same, cases-eq k (base + length S)))
+
+  -- the last start written again
+  pub half-again : (S J : List A) (x y : A) → length S ≤ n → base + (n + 1) + length J ≤ length d → set (half d base n (S ++ x ∷ []) J) (base + length S) y ≡ half d base n (S ++ y ∷ []) J
+  half-again S J x y short room = same-lists _ _ (search (needs, places)) (λ k e h. grind (arith, places, getD-set-same, cases-eq k (base + length S)))
+
+  -- one more cell
+  pub half-push : (S J : List A) (x : A) → length S ≤ n + 1 → base + (n + 1) + length J < length d → set (half d base n S J) (base + (n + 1) + length J) x ≡ half d base n S (J ++ x ∷ [])
+  half-push S J x short room = same-lists _ _ (search (needs, places)) (λ k e h. grind (arith, places, getD-set-same, cases-eq k (base + (n + 1) + length J)))
+
+  pub half-all : (S J : List A) → length S ≡ n + 1 → base + (n + 1) + length J ≤ length d → half d base n S J ≡ placed d base (S ++ J)
+  half-all S J full room = same-lists _ _ (search (needs, places)) (λ k e h. grind (arith, places))
+
+  pub half-long : (S J : List A) → length S ≤ n + 1 → base + (n + 1) + length J ≤ length d → length (half d base n S J) ≡ length d
+  half-long S J short room = search (needs, places)
