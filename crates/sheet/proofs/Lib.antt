@@ -6,3 +6,4 @@ pub mod Same
 pub mod Sounds
 pub mod Halves
 pub mod Laying
+pub mod Lists

@@ -2,4 +2,5 @@ pub mod Refusals
 pub mod Weighing
 pub mod Packed
 pub mod Checking
+pub mod Loading
 pub mod Writing
