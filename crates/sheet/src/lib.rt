@@ -1,5 +1,7 @@
+mod check;
 mod refusal;
 mod weighing;
 
+pub use check::check_sheet;
 pub use refusal::Refusal;
 pub use weighing::weigh;
