@@ -4,3 +4,4 @@ pub mod Found
 pub mod Packs
 pub mod Same
 pub mod Sounds
+pub mod Unique

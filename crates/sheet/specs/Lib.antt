@@ -2,3 +2,4 @@ pub mod Refusals
 pub mod Weighing
 pub mod Packed
 pub mod Checking
+pub mod Forms
