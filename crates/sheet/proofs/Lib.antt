@@ -5,3 +5,4 @@ pub mod Packs
 pub mod Same
 pub mod Sounds
 pub mod Unique
+pub mod Sought
