@@ -7,3 +7,5 @@ pub mod Sounds
 pub mod Halves
 pub mod Laying
 pub mod Lists
+pub mod Unique
+pub mod Sought

@@ -4,3 +4,4 @@ pub mod Packed
 pub mod Checking
 pub mod Loading
 pub mod Writing
+pub mod Forms

@@ -14,18 +14,18 @@ loop-at-holds g c =
     record { past = omega arith; within = omega arith; row = omega arith; from = omega arith; keep = λ j h. c .loop-p .inv j (omega arith) }
 
 pub loop-at-less-then-words-row : need.loop-at-less-then-words-row
-loop-at-less-then-words-row g c = let r = inside (c .loop-at .inv) (c .loop-at-test .taken) in omega arith
+loop-at-less-then-words-row g c = let r = inside (c .loop-at .inv) (omega arith) in omega arith
 
 pub loop-at-again-then-words-row : need.loop-at-again-then-words-row
 loop-at-again-then-words-row g c =
     let w = c .loop-at .inv in
-    let r = inside w (c .loop-at-test .taken) in
-    record { past = w .past; within = w .within; row = omega arith; from = c .if-words-row .taken; keep = w .keep }
+    let r = inside w (omega arith) in
+    record { past = w .past; within = w .within; row = omega arith; from = omega arith; keep = w .keep }
 
 pub cell-keeps-requires : need.cell-keeps-requires
 cell-keeps-requires g c κs =
     let w = c .loop-at .inv in
-    let r = inside w (c .loop-at-test .taken) in
+    let r = inside w (omega arith) in
     ((omega arith, (omega arith, (omega arith, walk-rises w))), (r, (omega arith, omega arith)))
 
 pub loop-at-again : need.loop-at-again

@@ -13,5 +13,6 @@ Inv-loop-p g l =
 abbrev pub Inv-loop-at : given.InvT-loop-at
 Inv-loop-at g l = let a = g .F·Arithmetic .figures in Walk (a .ring) (l .order) (l .words) (meanings a (l .figures)) (l .at) (l .row)
 
+-- each round moves the position or the row on: at most length - 1 rounds, after the order + 1 of the head
 abbrev pub μ-loop-at : given.MeasureT-loop-at
 μ-loop-at g l = (length (l .words) - l .at) + (l .order - l .row)
