@@ -5,7 +5,7 @@ use Prim.Native.Nat.{ℕ, zero, suc, _+_, _-_, _<_, _≤_, min}
 use native.Mathlib.Omega.{arith}
 use borrow.Author.Needs.{needs}
 use lib.ListN.{length, set, take, drop, getD}
-use Rattle.std.proofs.shelf.Lists.{places, same-lists, getD-set-same, length-append, length-take, length-drop, length-set}
+use Rattle.std.proofs.shelf.Lists.{places, same-lists, getD-set-same, length-append, length-take, length-drop, length-set, take-set, drop-set-lt}
 use Rattle.std.proofs.shelf.Tests.{cases-eq}
 use Rattle.sheet.specs.Writing.{placed}
 
@@ -33,3 +33,7 @@ module _ {A : Type 0} (d : List A) (base n : ℕ) where
 
   pub half-long : (S J : List A) → length S ≤ n + 1 → base + (n + 1) + length J ≤ length d → length (half d base n S J) ≡ length d
   half-long S J short room = search (needs, places)
+
+-- a place that is written over may have been written before
+pub placed-over : {A : Type 0} (d : List A) (base : ℕ) (x : A) (xs : List A) → 0 < length xs → placed (set d base x) base xs ≡ placed d base xs
+placed-over d base x xs some = ap₂ (λ y z. y ++ (xs ++ z)) (take-set d base x) (drop-set-lt (base + length xs) d base x (omega arith))

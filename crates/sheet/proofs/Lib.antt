@@ -9,3 +9,4 @@ pub mod Laying
 pub mod Lists
 pub mod Unique
 pub mod Sought
+pub mod Loads

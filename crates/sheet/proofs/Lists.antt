@@ -1,5 +1,5 @@
 -- Lists of entries in order, and the tables that they stand for.
-use mathlib.Core.Path.{_≡_, refl, sym, ap, ap₂, _∙_}
+use mathlib.Core.Path.{_≡_, refl, sym, ap, ap₂, subst, _∙_}
 use mathlib.Core.Bool.{Bool, true, false, cond, not, _&&_}
 use mathlib.Core.Logic.{_⊎_, inl, inr, ⊎-elim}
 use mathlib.Core.List.{List, [], _∷_, _++_}
@@ -8,11 +8,12 @@ use native.Mathlib.Omega.{arith}
 use native.Mathlib.Numerals.{add-one}
 use lib.Dec.{eqb}
 use lib.ListN.{length, getD}
-use Rattle.std.proofs.shelf.Lists.{length-append}
+use Rattle.std.proofs.shelf.Lists.{length-append, length-push}
 use Rattle.std.proofs.shelf.Tests.{cases-lt, cases-eq, eq-eqb, ne-eqb}
 use Rattle.arithmetic.specs.Semiring.{Semiring, Figures, meanings}
 use Rattle.matrix.specs.Tables.{Table}
 use Rattle.matrix.proofs.Sums.{add-zero}
+use Rattle.matrix.proofs.Meant.{read-means}
 use Rattle.sheet.specs.Packed.{stored, columns-below, row-columns, row-start, packed-length}
 use Rattle.sheet.specs.Loading.{Entry, entries, loaded, Placed}
 use Rattle.sheet.proofs.Columns.{columns-yes, columns-no}
@@ -117,17 +118,17 @@ module _ {F : Type 0} (s : Semiring F) (n : ℕ) (t : Table F) where
       starts-small zero small = omega arith
       starts-small (suc r) small = let before = starts-small r small in let few = columns-few r n in omega arith
 
+-- the first k entries come before cell (r, c), and the others do not
+pub record Frontier (rows columns : List ℕ) (r c k : ℕ) : Type 0 where
+  pub few : k ≤ length rows
+  pub past : (e : ℕ) → e < k → Before (getD rows e 0) (getD columns e 0) r c
+  pub ahead : (e : ℕ) → k ≤ e → e < length rows → AtLeast r c (getD rows e 0) (getD columns e 0)
+
+abbrev pub listed : {S : Type 0} (a : Figures S) → List ℕ → List ℕ → List S → Table (a .F)
+listed a rows columns figs = loaded (a .ring) (entries a rows columns figs)
+
 module _ {S : Type 0} (a : Figures S) (n : ℕ) (rows columns : List ℕ) (figs : List S) (even : length columns ≡ length rows) (even′ : length figs ≡ length rows) (placed : (k : ℕ) → k < length rows → Placed n rows columns k) where
-  abbrev pub listed : Table (a .F)
-  listed = loaded (a .ring) (entries a rows columns figs)
-
-  -- the first k entries come before cell (r, c), and the others do not
-  pub record Frontier (r c k : ℕ) : Type 0 where
-    pub few : k ≤ length rows
-    pub past : (e : ℕ) → e < k → Before (getD rows e 0) (getD columns e 0) r c
-    pub ahead : (e : ℕ) → k ≤ e → e < length rows → AtLeast r c (getD rows e 0) (getD columns e 0)
-
-  pub frontier-none : Frontier 0 0 0
+  pub frontier-none : Frontier rows columns 0 0 0
   frontier-none = record { few = omega arith; past = λ e h. absurd (omega arith); ahead = λ e from to. start (getD rows e 0) (getD columns e 0) }
     where
       start : (i j : ℕ) → AtLeast 0 0 i j
@@ -145,7 +146,7 @@ module _ {S : Type 0} (a : Figures S) (n : ℕ) (rows columns : List ℕ) (figs 
   not-same (inr h) e d = let q = h .1 in omega arith
 
   -- a cell between the frontier and the next entry is zero
-  pub gap : (r c k i j : ℕ) → Frontier r c k → AtLeast r c i j → ((e : ℕ) → k ≤ e → e < length rows → Before i j (getD rows e 0) (getD columns e 0)) → listed i j ≡ a .ring .zero
+  pub gap : (r c k i j : ℕ) → Frontier rows columns r c k → AtLeast r c i j → ((e : ℕ) → k ≤ e → e < length rows → Before i j (getD rows e 0) (getD columns e 0)) → listed a rows columns figs i j ≡ a .ring .zero
   gap r c k i j f from to = loaded-none a rows columns figs i j (λ e low is-r is-c. ⊎-elim
       (λ (h : e < k). apart (f .past e h) from is-r is-c)
       (λ (h : k ≤ e). not-same (to e h low) is-r is-c)
@@ -153,7 +154,7 @@ module _ {S : Type 0} (a : Figures S) (n : ℕ) (rows columns : List ℕ) (figs 
 
   module _ (k : ℕ) (low : k < length rows) where
     -- the cell of an entry has its figure
-    pub cell-listed : (d : a .F) → listed (getD rows k 0) (getD columns k 0) ≡ getD (meanings a figs) k d
+    pub cell-listed : (d : a .F) → listed a rows columns figs (getD rows k 0) (getD columns k 0) ≡ getD (meanings a figs) k d
     cell-listed d = loaded-one a rows columns figs (getD rows k 0) (getD columns k 0) k d even even′ low refl refl (λ e less is-r is-c. ⊎-elim
         (λ (h : e < k). absurd (not-same (ordered n rows columns placed e k h low) (sym is-r) (sym is-c)))
         (λ (h : k ≤ e). ⊎-elim
@@ -163,7 +164,7 @@ module _ {S : Type 0} (a : Figures S) (n : ℕ) (rows columns : List ℕ) (figs 
         (cases-lt e k))
 
     -- past an entry, the frontier is the cell after it
-    pub frontier-more : (r c : ℕ) → Frontier r c k → Frontier (getD rows k 0) (getD columns k 0 + 1) (k + 1)
+    pub frontier-more : (r c : ℕ) → Frontier rows columns r c k → Frontier rows columns (getD rows k 0) (getD columns k 0 + 1) (k + 1)
     frontier-more r c f = record {
       few = omega arith;
       past = λ e h. ⊎-elim
@@ -182,8 +183,60 @@ module _ {S : Type 0} (a : Figures S) (n : ℕ) (rows columns : List ℕ) (figs 
         narrow (inr h) = let q = h .1 in inr (h .0, omega arith)
 
     -- cells from the frontier up to the next entry are zero
-    pub gap-before : (r c : ℕ) → Frontier r c k → (i j : ℕ) → AtLeast r c i j → Before i j (getD rows k 0) (getD columns k 0) → listed i j ≡ a .ring .zero
+    pub gap-before : (r c : ℕ) → Frontier rows columns r c k → (i j : ℕ) → AtLeast r c i j → Before i j (getD rows k 0) (getD columns k 0) → listed a rows columns figs i j ≡ a .ring .zero
     gap-before r c f i j from to = gap r c k i j f from (λ e more less. ⊎-elim
         (λ (g : k < e). further to (ordered n rows columns placed k e g less))
         (λ (g : e ≤ k). let same : e ≡ k = omega arith in rw same to)
         (cases-lt k e))
+
+-- k entries are counted: up to the cell after them the packed form is so long
+pub record Counted {S : Type 0} (a : Figures S) (n : ℕ) (rows columns : List ℕ) (figs : List S) (k count : ℕ) : Type 0 where
+  pub row : ℕ
+  pub column : ℕ
+  pub row-within : row < n
+  pub column-within : column ≤ n
+  pub frontier : Frontier rows columns row column k
+  pub count-is : count ≡ spot (a .ring) n (listed a rows columns figs) row column
+
+module _ {S : Type 0} (a : Figures S) (n : ℕ) (rows columns : List ℕ) (figs : List S) (even : length columns ≡ length rows) (even′ : length figs ≡ length rows) (placed : (k : ℕ) → k < length rows → Placed n rows columns k) where
+  pub counted-none : 1 ≤ n → Counted a n rows columns figs 0 (n + 1)
+  counted-none some = record { row = 0; column = 0; row-within = omega arith; column-within = omega arith; frontier = frontier-none a n rows columns figs even even′ placed; count-is = omega arith }
+
+  -- the count stays small
+  pub counted-small : n ≤ 1024 → (k count : ℕ) → Counted a n rows columns figs k count → count < 2000000
+  counted-small small k count m =
+      let bound = spot-small (a .ring) n (listed a rows columns figs) (m .row) (m .column) small in
+      let rows-few = m .row-within in
+      let columns-few = m .column-within in
+      let is = m .count-is in
+      omega arith
+
+  -- one more entry, which is stored or not
+  pub counted-more : (k : ℕ) → k < length rows → (count : ℕ) → Counted a n rows columns figs k count → (b : Bool) → stored (a .ring) (getD rows k 0) (listed a rows columns figs (getD rows k 0)) (getD columns k 0) ≡ b → Counted a n rows columns figs (k + 1) (count + cond b 1 0)
+  counted-more k low count m b is =
+      let p = placed k low in
+      let below = p .row-below in
+      let below′ = p .column-below in
+      record {
+        row = getD rows k 0;
+        column = getD columns k 0 + 1;
+        row-within = omega arith;
+        column-within = omega arith;
+        frontier = frontier-more a n rows columns figs even even′ placed k low (m .row) (m .column) (m .frontier);
+        count-is = ap (λ x. x + cond b 1 0) (m .count-is ∙ spot-quiet (a .ring) n (listed a rows columns figs) (m .row) (m .column) (getD rows k 0) (getD columns k 0) (m .frontier .ahead k (omega arith) low) (m .column-within) (λ x y from to in-row. gap-before a n rows columns figs even even′ placed k low (m .row) (m .column) (m .frontier) x y from to) (omega arith)) ∙ step b is;
+      }
+    where
+      step : (b : Bool) → stored (a .ring) (getD rows k 0) (listed a rows columns figs (getD rows k 0)) (getD columns k 0) ≡ b → spot (a .ring) n (listed a rows columns figs) (getD rows k 0) (getD columns k 0) + cond b 1 0 ≡ spot (a .ring) n (listed a rows columns figs) (getD rows k 0) (getD columns k 0 + 1)
+      step true e = rw (columns-yes (a .ring) (getD rows k 0) (listed a rows columns figs (getD rows k 0)) (getD columns k 0) e) (simp length-push (omega arith))
+      step false e = rw (columns-no (a .ring) (getD rows k 0) (listed a rows columns figs (getD rows k 0)) (getD columns k 0) e) (omega arith)
+
+  pub counted-all : (k : ℕ) → length rows ≤ k → (count : ℕ) → Counted a n rows columns figs k count → count ≡ packed-length (a .ring) n (listed a rows columns figs)
+  counted-all k all count m =
+      m .count-is ∙ (spot-quiet (a .ring) n (listed a rows columns figs) (m .row) (m .column) n 0 (inl (m .row-within)) (m .column-within) (λ x y from to in-row. gap a n rows columns figs even even′ placed (m .row) (m .column) k x y (m .frontier) from (λ e more less. absurd (omega arith))) (omega arith) ∙ omega arith)
+
+  -- whether the cell of an entry is stored, by its figure
+  pub stored-listed : (k : ℕ) → k < length rows → (f : S) → f ≡ getD figs k f → stored (a .ring) (getD rows k 0) (listed a rows columns figs (getD rows k 0)) (getD columns k 0) ≡ (not (eqb (getD columns k 0) (getD rows k 0)) && not (a .ring .is-zero (a .meaning f)))
+  stored-listed k low f is = ap (λ x. not (eqb (getD columns k 0) (getD rows k 0)) && not (a .ring .is-zero x)) (cell-listed a n rows columns figs even even′ placed k low (a .ring .zero) ∙ sym (read-means a figs k f (a .ring .zero) (omega arith) is))
+
+  pub counted-next : (k : ℕ) → k < length rows → (count : ℕ) → Counted a n rows columns figs k count → (f : S) → f ≡ getD figs k f → (b : Bool) → b ≡ (not (eqb (getD columns k 0) (getD rows k 0)) && not (a .ring .is-zero (a .meaning f))) → (count′ : ℕ) → count′ ≡ count + cond b 1 0 → Counted a n rows columns figs (k + 1) count′
+  counted-next k low count m f is b told count′ e = subst (λ x. Counted a n rows columns figs (k + 1) x) (sym e) (counted-more k low count m b (stored-listed k low f is ∙ sym told))

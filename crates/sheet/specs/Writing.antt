@@ -2,7 +2,7 @@
 use mathlib.Core.Path.{_≡_}
 use mathlib.Core.List.{List, _++_}
 use Prim.Native.Nat.{ℕ, _+_}
-use lib.ListN.{length, take, drop}
+use lib.ListN.{length, take, drop, set}
 use Rattle.arithmetic.specs.Semiring.{Figures, meanings}
 use Rattle.matrix.specs.Tables.{Table}
 use Rattle.sheet.specs.Packed.{packed-index, packed-figures}
@@ -17,3 +17,10 @@ pub record Appended {S : Type 0} (a : Figures S) (n : ℕ) (t : Table (a .F)) (b
   pub stored : List S
   pub means : meanings a stored ≡ packed-figures (a .ring) n t
   pub figures : fs′ ≡ placed fs base stored
+
+-- the figure f of cell (row, column) was written, in a sheet that starts at base: on the diagonal to its place there;
+-- elsewhere to `at` if it is not zero; what is written next goes to at′
+pub record EntryWritten {S : Type 0} (a : Figures S) (base row column : ℕ) (f : S) (at : ℕ) (ws : List ℕ) (fs : List S) (ws′ : List ℕ) (fs′ : List S) (at′ : ℕ) : Type 0 where
+  pub corner : column ≡ row → (ws′ ≡ ws) × (fs′ ≡ set fs (base + row) f) × (at′ ≡ at)
+  pub nothing : (column ≡ row → ⊥) → a .meaning f ≡ a .ring .zero → (ws′ ≡ ws) × (fs′ ≡ fs) × (at′ ≡ at)
+  pub cell : (column ≡ row → ⊥) → (a .meaning f ≡ a .ring .zero → ⊥) → (ws′ ≡ set ws at column) × (fs′ ≡ set fs at f) × (at′ ≡ at + 1)
