@@ -6,13 +6,22 @@ use mathlib.Core.List.{List, [], _∷_, _++_}
 use Prim.Native.Nat.{ℕ, zero, suc, _+_, _<_, _≤_}
 use native.Mathlib.Omega.{arith}
 use native.Mathlib.Numerals.{add-one}
+use lib.Dec.{eqb}
 use lib.ListN.{length, getD}
 use Rattle.std.proofs.shelf.Lists.{append-nil, length-append, length-push, getD-append-left, getD-push}
 use Rattle.std.proofs.shelf.Tests.{cases-lt, cases-bool}
 use Rattle.arithmetic.specs.Semiring.{Semiring}
 use Rattle.sheet.specs.Packed.{stored, columns-below}
 
+and-no : (b : Bool) → (b && false) ≡ false
+and-no true = refl
+and-no false = refl
+
 module _ {F : Type 0} (s : Semiring F) (r : ℕ) (v : ℕ → F) where
+  -- a cell that is zero is not stored
+  pub zero-not-stored : (c : ℕ) → v c ≡ s .zero → stored s r v c ≡ false
+  zero-not-stored c e = rw (s .tests-zero (v c) .1 e) (and-no (not (eqb c r)))
+
   columns-more : (c : ℕ) → columns-below s r v (c + 1) ≡ columns-below s r v c ++ cond (stored s r v c) (c ∷ []) []
   columns-more c = rw add-one refl
 

@@ -18,16 +18,12 @@ use Rattle.matrix.specs.Tables.{Table}
 use Rattle.matrix.proofs.Meant.{length-meanings}
 use Rattle.sheet.specs.Packed.{joined-over, stored, columns-below, row-columns, row-start, packed-length, packed-index, packed-figures}
 use Rattle.sheet.specs.Writing.{placed, Appended}
-use Rattle.sheet.proofs.Columns.{columns-yes, columns-no, columns-room, columns-grow}
+use Rattle.sheet.proofs.Columns.{zero-not-stored, columns-yes, columns-no, columns-room, columns-grow}
 use Rattle.sheet.proofs.Packs.{row-start-is, figures-long}
 use Rattle.sheet.proofs.Halves.{half, half-none, half-mark, half-again, half-push, half-all}
 
 false-not-true : false ≡ true → ⊥
 false-not-true e = let z : _≡_ {A = ℕ} 0 1 = cc in omega arith
-
-and-no : (b : Bool) → (b && false) ≡ false
-and-no true = refl
-and-no false = refl
 
 ltb-apart : (r c : ℕ) → (c ≡ r → ⊥) → ltb r c ≡ ltb r (c + 1)
 ltb-apart r c ne = ⊎-elim
@@ -148,7 +144,7 @@ module _ {S : Type 0} (a : Figures S) (n : ℕ) (t : Table (a .F)) (base : ℕ) 
     pub laying-pass : t r c ≡ a .ring .zero → Laying a n t base ws fs r (c + 1) ws′ fs′ at
     laying-pass nothing =
         let s = a .ring in
-        let none : stored s r (t r) c ≡ false = not-stored nothing in
+        let none : stored s r (t r) c ≡ false = zero-not-stored s r (t r) c nothing in
         let next = columns-no s r (t r) c none in
         record {
           at-is = rw next (l .at-is);
@@ -162,9 +158,6 @@ module _ {S : Type 0} (a : Figures S) (n : ℕ) (t : Table (a .F)) (base : ℕ) 
           figures-are = l .figures-are;
         }
       where
-        not-stored : t r c ≡ a .ring .zero → stored (a .ring) r (t r) c ≡ false
-        not-stored e = rw (a .ring .tests-zero (t r c) .1 e) (and-no (not (eqb c r)))
-
         corner-same : (c ≡ r) ⊎ (c ≡ r → ⊥) → cond (ltb r c) (t r r) (a .ring .zero) ≡ cond (ltb r (c + 1)) (t r r) (a .ring .zero)
         corner-same = ⊎-elim
             (λ (e : c ≡ r). let here : t r r ≡ a .ring .zero = rw e at nothing in rw (le-ltb r c (omega arith), lt-ltb r (c + 1) (omega arith)) (sym here))

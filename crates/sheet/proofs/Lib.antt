@@ -10,3 +10,4 @@ pub mod Lists
 pub mod Unique
 pub mod Sought
 pub mod Loads
+pub mod Diagonals

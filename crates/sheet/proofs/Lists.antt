@@ -16,7 +16,7 @@ use Rattle.matrix.proofs.Sums.{add-zero}
 use Rattle.matrix.proofs.Meant.{read-means}
 use Rattle.sheet.specs.Packed.{stored, columns-below, row-columns, row-start, packed-length}
 use Rattle.sheet.specs.Loading.{Entry, entries, loaded, Placed}
-use Rattle.sheet.proofs.Columns.{columns-yes, columns-no}
+use Rattle.sheet.proofs.Columns.{zero-not-stored, columns-yes, columns-no}
 use Rattle.sheet.proofs.Laying.{spot, spot-row}
 
 -- cell (r, c) comes before cell (i, j)
@@ -78,16 +78,9 @@ module _ {F : Type 0} (s : Semiring F) (n : ℕ) (t : Table F) where
   columns-quiet : (r c m : ℕ) → c ≤ m → ((j : ℕ) → c ≤ j → j < m → t r j ≡ s .zero) → columns-below s r (t r) c ≡ columns-below s r (t r) m
   columns-quiet r c zero le quiet = let e : c ≡ 0 = omega arith in ap (columns-below s r (t r)) e
   columns-quiet r c (suc m) le quiet = ⊎-elim
-      (λ (h : c < suc m). columns-quiet r c m (omega arith) (λ j from to. quiet j from (omega arith)) ∙ (sym (columns-no s r (t r) m (nothing (quiet m (omega arith) (omega arith)))) ∙ ap (columns-below s r (t r)) (add-one m)))
+      (λ (h : c < suc m). columns-quiet r c m (omega arith) (λ j from to. quiet j from (omega arith)) ∙ (sym (columns-no s r (t r) m (zero-not-stored s r (t r) m (quiet m (omega arith) (omega arith)))) ∙ ap (columns-below s r (t r)) (add-one m)))
       (λ (h : suc m ≤ c). let e : c ≡ suc m = omega arith in ap (columns-below s r (t r)) e)
       (cases-lt c (suc m))
-    where
-      nothing : t r m ≡ s .zero → stored s r (t r) m ≡ false
-      nothing e = rw (s .tests-zero (t r m) .1 e) (both-no (not (eqb m r)))
-        where
-          both-no : (b : Bool) → (b && false) ≡ false
-          both-no true = refl
-          both-no false = refl
 
   -- cells that are zero take no place
   pub spot-quiet : (r c i j : ℕ) → AtLeast r c i j → c ≤ n → ((x y : ℕ) → AtLeast r c x y → Before x y i j → y < n → t x y ≡ s .zero) → j ≤ n → spot s n t r c ≡ spot s n t i j

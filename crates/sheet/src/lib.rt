@@ -3,6 +3,7 @@ mod loading;
 mod packed;
 mod reading;
 mod refusal;
+mod units;
 mod weighing;
 
 pub use check::check_sheet;
@@ -14,4 +15,5 @@ pub use packed::packed_form_is_unique;
 pub use packed::sound_sheet_is_packed;
 pub use reading::cell_of;
 pub use refusal::Refusal;
+pub use units::write_unit;
 pub use weighing::weigh;
