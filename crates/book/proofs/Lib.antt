@@ -1,3 +1,4 @@
 pub mod Passing
 pub mod Starts
 pub mod Early
+pub mod Ends

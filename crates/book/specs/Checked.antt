@@ -9,7 +9,7 @@ use Rattle.arithmetic.specs.Semiring.{Figures}
 use Rattle.sheet.specs.declared.refusal.Refusal.{Refusal}
 use Rattle.book.specs.Limits.{header-words, largest-capacity}
 use Rattle.book.specs.Book.{Arrays, SoundBook, HeaderRule, capacity}
-use Rattle.book.specs.Lines.{SentBack, guard, layout, header}
+use Rattle.book.specs.Lines.{Line, Passes, SentBack, guard, layout, header}
 
 -- the three arrays have the lengths that they should
 pub record Laid {S : Type 0} (b : Arrays S) : Type 0 where
@@ -33,3 +33,8 @@ HeaderChecked b (Err why) = header b why
 abbrev pub BookChecked : {S : Type 0} → Figures S → Arrays S → Result (Unit {0}) Refusal → Type 0
 BookChecked a b (Ok u) = SoundBook a b
 BookChecked a b (Err why) = SentBack (guard a b) why
+
+-- the line does not apply, or it gives the refusal
+abbrev pub LineChecked : Line → Result (Unit {0}) Refusal → Type 0
+LineChecked l (Ok u) = Passes l
+LineChecked l (Err why) = l why

@@ -3,10 +3,10 @@ use mathlib.Core.Path.{_≡_}
 use mathlib.Core.Logic.{_⊎_}
 use mathlib.Core.List.{List, [], _∷_, _++_}
 use Prim.Native.Nat.{ℕ, _+_, _-_, _<_, _≤_}
-use lib.ListN.{length, getD}
+use lib.ListN.{length}
 use Rattle.arithmetic.specs.Semiring.{Figures}
-use Rattle.matrix.specs.Tables.{Table}
-use Rattle.sheet.specs.Packed.{packed-length, FirstBreak}
+use Rattle.sheet.specs.Packed.{FirstBreak}
+use Rattle.sheet.specs.Loading.{Placed}
 use Rattle.sheet.specs.declared.refusal.Refusal.{Refusal}
 use Rattle.sheet.specs.declared.refusal.Refusal.the-variants.{Layout, Order, Header, Position, Lengths, Sheet, Full, Misplaced, Room}
 use Rattle.book.specs.Limits.{header-words, most-sheets, largest-order, largest-capacity}
@@ -52,10 +52,6 @@ module _ {S : Type 0} (b : Arrays S) where
   abbrev pub header : Line
   header = line Header (FirstBreak (HeaderRule (b .header) (capacity b)) header-words)
 
-  -- 1: the column list is not as long as the row list; else 2: the figure list is not
-  abbrev pub list-lengths : List ℕ → List ℕ → List S → Line
-  list-lengths rows columns figures = line Lengths (λ p. ((p ≡ 1) × (length columns ≡ length rows → ⊥)) ⊎ ((p ≡ 2) × (length columns ≡ length rows) × (length figures ≡ length rows → ⊥)))
-
   -- the first of the named sheets that the book has not
   abbrev pub FirstMissing : List ℕ → ℕ → Type 0
   FirstMissing [] p = ⊥
@@ -68,10 +64,6 @@ module _ {S : Type 0} (b : Arrays S) where
   abbrev pub none-to-strike : Line
   none-to-strike = line Sheet (λ p. (p ≡ 0) × (sheets-of b ≡ 0))
 
-  -- a new sheet is wanted and the book has as many as it can have
-  abbrev pub full : Line
-  full = line Full (λ p. (p ≡ most-sheets) × (sheets-of b ≡ most-sheets))
-
   -- the row or, where that is in the table, the column is not in the table
   abbrev pub outside : ℕ → ℕ → Line
   outside row column = line Misplaced (λ p. ((p ≡ 0) × (order-of b ≤ row)) ⊎ ((p ≡ 1) × (row < order-of b) × (order-of b ≤ column)))
@@ -79,26 +71,27 @@ module _ {S : Type 0} (b : Arrays S) where
   abbrev pub outside-row : ℕ → Line
   outside-row row = line Misplaced (λ p. (p ≡ 0) × (order-of b ≤ row))
 
--- entry k of a list lies in a table of order n, and after the entry before it, by row and then by column
-pub record Placed (n : ℕ) (rows columns : List ℕ) (k : ℕ) : Type 0 where
-  pub row-below : getD rows k 0 < n
-  pub column-below : getD columns k 0 < n
-  pub after : 0 < k → (getD rows (k - 1) 0 < getD rows k 0) ⊎ ((getD rows (k - 1) 0 ≡ getD rows k 0) × (getD columns (k - 1) 0 < getD columns k 0))
-
-module _ {S : Type 0} (b : Arrays S) where
-  -- the first entry that is misplaced
-  abbrev pub misplaced : List ℕ → List ℕ → Line
-  misplaced rows columns = line Misplaced (FirstBreak (Placed (order-of b) rows columns) (length rows))
-
 module _ {S : Type 0} (a : Figures S) (b : Arrays S) where
   -- the first position of the index array that breaks its rule
   abbrev pub position : Line
   position = line Position (FirstBreak (PositionRule a b) (last-end b))
 
-  -- the packed form of t is longer than what is left of the capacity after the last end
-  abbrev pub room : Table (a .F) → Line
-  room t = line Room (λ p. (p ≡ packed-length (a .ring) (order-of b) t) × (capacity b - last-end b < p))
-
   -- the lines that every call on a book but open begins with
   abbrev pub guard : List Line
   guard = layout b ∷ (header b ∷ (position ∷ []))
+
+-- 1: the column list is not as long as the row list; else 2: the figure list is not
+abbrev pub list-lengths : {S : Type 0} → List ℕ → List ℕ → List S → Line
+list-lengths rows columns figures = line Lengths (λ p. ((p ≡ 1) × (length columns ≡ length rows → ⊥)) ⊎ ((p ≡ 2) × (length columns ≡ length rows) × (length figures ≡ length rows → ⊥)))
+
+-- a new sheet is wanted and the book has as many sheets as it can have
+abbrev pub full : ℕ → Line
+full sheets = line Full (λ p. (p ≡ most-sheets) × (sheets ≡ most-sheets))
+
+-- the first entry of a list that is misplaced in a table of order n
+abbrev pub misplaced : ℕ → List ℕ → List ℕ → Line
+misplaced n rows columns = line Misplaced (FirstBreak (Placed n rows columns) (length rows))
+
+-- the new sheet is longer than what is left of the capacity
+abbrev pub room : ℕ → ℕ → Line
+room size left = line Room (λ p. (p ≡ size) × (left < p))
