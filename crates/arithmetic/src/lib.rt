@@ -9,12 +9,16 @@ mod yes_no;
 
 pub use amount::Amount;
 pub use amount::AmountArithmetic;
+pub use amount::AmountDisplay;
 pub use block::Block;
 pub use block::BlockArithmetic;
+pub use block::BlockDisplay;
 pub use wait::Wait;
 pub use wait::WaitArithmetic;
+pub use wait::WaitDisplay;
 pub use yes_no::YesNo;
 pub use yes_no::YesNoArithmetic;
+pub use yes_no::YesNoDisplay;
 
 // An arithmetic: a kind of figure with a zero, a unit, add, multiply and a test for zero, that is, a semiring.
 // An `impl` shows the laws by giving `figures`, a record that holds them; code that is generic over
