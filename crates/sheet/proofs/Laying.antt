@@ -12,12 +12,12 @@ use lib.ListN.{length, set, getD}
 use Rattle.std.specs.Iters.{counting}
 use Rattle.std.proofs.shelf.Lists.{append-nil, length-append, length-map, length-push, map-append, map-push}
 use Rattle.std.proofs.shelf.Counted.{length-map-counting, map-counting-more}
-use Rattle.std.proofs.shelf.Tests.{cases-lt, cases-eq, lt-ltb, le-ltb, eq-eqb, ne-eqb, and-parts, cond-below, cond-above}
+use Rattle.std.proofs.shelf.Tests.{cases-lt, cases-eq, cases-bool, lt-ltb, le-ltb, eq-eqb, ne-eqb, and-parts, cond-below, cond-above}
 use Rattle.arithmetic.specs.Semiring.{Semiring, Figures, meanings}
 use Rattle.matrix.specs.Tables.{Table}
 use Rattle.matrix.proofs.Meant.{length-meanings}
 use Rattle.sheet.specs.Packed.{joined-over, stored, columns-below, row-columns, row-start, packed-length, packed-index, packed-figures}
-use Rattle.sheet.specs.Writing.{placed, Appended}
+use Rattle.sheet.specs.Writing.{placed, Appended, EntryWritten}
 use Rattle.sheet.proofs.Columns.{zero-not-stored, columns-yes, columns-no, columns-room, columns-grow}
 use Rattle.sheet.proofs.Packs.{row-start-is, figures-long}
 use Rattle.sheet.proofs.Halves.{half, half-none, half-mark, half-again, half-push, half-all}
@@ -183,6 +183,37 @@ module _ {S : Type 0} (a : Figures S) (n : ℕ) (t : Table (a .F)) (base : ℕ) 
           cells-mean = rw next (l .cells-mean);
           figures-are = fe ∙ (ap₂ (λ d i. set d i y) (l .figures-are) there ∙ half-again fs base n (l .diagonal) (l .cells) (l .corner) y (omega (arith, diagonal-long)) (omega (arith, cells-long)));
         }
+
+    -- the figure of cell (r, c) is written in whichever way it is to be
+    pub laying-entry : c < n → (f : S) → a .meaning f ≡ t r c → (ws″ : List ℕ) (fs″ : List S) (at′ : ℕ) → EntryWritten a base r c f at ws′ fs′ ws″ fs″ at′ → Laying a n t base ws fs r (c + 1) ws″ fs″ at′
+    laying-entry low′ f is ws″ fs″ at′ w = ⊎-elim
+        (λ (e : c ≡ r). let p = w .corner e in moved (p .0) (p .2) (laying-corner e f is fs″ (p .1)))
+        (λ (off : c ≡ r → ⊥). ⊎-elim
+        (λ (z : a .ring .is-zero (a .meaning f) ≡ true).
+        let none = a .ring .tests-zero (a .meaning f) .0 z in
+        let p = w .nothing off none in
+        settled (p .0) (p .1) (p .2) (laying-pass (sym is ∙ none)))
+        (λ (z : a .ring .is-zero (a .meaning f) ≡ false).
+        let p = w .cell off (λ e. false-not-true (sym z ∙ a .ring .tests-zero (a .meaning f) .1 e)) in
+        laying-cell low′ (rw (ne-eqb c r off, sym is, z) refl) f is ws″ fs″ at′ (p .0) (p .1) (p .2))
+        (cases-bool (a .ring .is-zero (a .meaning f))))
+        (cases-eq c r)
+      where
+        settled : ws″ ≡ ws′ → fs″ ≡ fs′ → at′ ≡ at → Laying a n t base ws fs r (c + 1) ws′ fs′ at → Laying a n t base ws fs r (c + 1) ws″ fs″ at′
+        settled we fe ae h = rw (we, fe, ae) h
+
+        moved : ws″ ≡ ws′ → at′ ≡ at → Laying a n t base ws fs r (c + 1) ws′ fs″ at → Laying a n t base ws fs r (c + 1) ws″ fs″ at′
+        moved we ae h = rw (we, ae) h
+
+    -- where it goes if it is stored, there is room
+    pub laying-room : c < n → (f : S) → a .meaning f ≡ t r c → (c ≡ r → ⊥) → (a .meaning f ≡ a .ring .zero → ⊥) → at < length ws
+    laying-room low′ f is off some = ⊎-elim
+        (λ (z : a .ring .is-zero (t r c) ≡ true). absurd (some (is ∙ a .ring .tests-zero (t r c) .0 z)))
+        (λ (z : a .ring .is-zero (t r c) ≡ false).
+        let more = spot-stored (a .ring) n t r c low low′ (rw (ne-eqb c r off, z) refl) in
+        let here = l .at-is in
+        omega arith)
+        (cases-bool (a .ring .is-zero (t r c)))
 
     -- the row is done: the next one starts where its cells ended
     pub laying-row : c ≡ n → (x : ℕ) → base + x ≡ at → (z : S) → a .meaning z ≡ a .ring .zero → (ws″ : List ℕ) (fs″ : List S) → ws″ ≡ set ws′ (base + (r + 1)) x → fs″ ≡ set fs′ (base + (r + 1)) z → Laying a n t base ws fs (r + 1) 0 ws″ fs″ at

@@ -16,7 +16,7 @@ use Rattle.sheet.specs.Loading.{Placed}
 use Rattle.sheet.specs.Writing.{Appended, EntryWritten}
 use Rattle.sheet.proofs.Halves.{placed-over}
 use Rattle.sheet.proofs.Same.{index-long, figures-long-too}
-use Rattle.sheet.proofs.Laying.{Laying, starts-grow, spot, spot-stored, spot-within, laying-none, laying-cell, laying-pass, laying-corner, laying-row, laying-skip, laying-all}
+use Rattle.sheet.proofs.Laying.{Laying, starts-grow, spot-within, laying-none, laying-entry, laying-room, laying-row, laying-skip, laying-all}
 use Rattle.sheet.proofs.Lists.{Before, AtLeast, Frontier, listed, ordered, frontier-none, frontier-more, gap, gap-before, cell-listed}
 
 -- k entries are written; the sheet has come to this row
@@ -45,18 +45,9 @@ module _ {S : Type 0} (a : Figures S) (n : ℕ) (rows columns : List ℕ) (figs 
     value-is : a .meaning f ≡ listed a rows columns figs row (getD columns k 0)
     value-is = read-means a figs k f (a .ring .zero) (omega arith) f-is ∙ (sym (cell-listed a n rows columns figs even even′ placed k low (a .ring .zero)) ∙ ap (λ r. listed a rows columns figs r (getD columns k 0)) is)
 
-    entry-stored : (getD columns k 0 ≡ row → ⊥) → (a .meaning f ≡ a .ring .zero → ⊥) → stored (a .ring) row (listed a rows columns figs row) (getD columns k 0) ≡ true
-    entry-stored off some = ⊎-elim
-        (λ (z : a .ring .is-zero (listed a rows columns figs row (getD columns k 0)) ≡ true). absurd (some (value-is ∙ a .ring .tests-zero _ .0 z)))
-        (λ (z : a .ring .is-zero (listed a rows columns figs row (getD columns k 0)) ≡ false). rw (ne-eqb (getD columns k 0) row off, z) refl)
-        (cases-bool (a .ring .is-zero (listed a rows columns figs row (getD columns k 0))))
-
     -- where an entry that is stored goes, there is room
     pub entry-room : (getD columns k 0 ≡ row → ⊥) → (a .meaning f ≡ a .ring .zero → ⊥) → at < length ws
-    entry-room off some =
-        let more = spot-stored (a .ring) n (listed a rows columns figs) row (getD columns k 0) below (placed k low .column-below) (entry-stored off some) in
-        let here = entry-here .at-is in
-        omega arith
+    entry-room off some = laying-room a n (listed a rows columns figs) base ws fs room level row (getD columns k 0) below ws′ fs′ at entry-here (placed k low .column-below) f value-is off some
 
     pub loading-entry : (ws″ : List ℕ) (fs″ : List S) (at′ : ℕ) → EntryWritten a base (getD rows k 0) (getD columns k 0) f at ws′ fs′ ws″ fs″ at′ → Loading a n rows columns figs base ws fs (k + 1) row ws″ fs″ at′
     loading-entry ws″ fs″ at′ w =
@@ -67,32 +58,8 @@ module _ {S : Type 0} (a : Figures S) (n : ℕ) (rows columns : List ℕ) (figs 
           row-within = omega arith;
           done = λ e. absurd (omega arith);
           frontier = subst (λ r. Frontier rows columns r (getD columns k 0 + 1) (k + 1)) is (frontier-more a n rows columns figs even even′ placed k low row (l .column) (l .frontier));
-          laying = ⊎-elim
-              (λ (e : getD columns k 0 ≡ row).
-              let p = w .corner (e ∙ sym is) in
-              let fe : fs″ ≡ set fs′ (base + row) f = p .1 ∙ ap (λ r. set fs′ (base + r) f) is in
-              moved (p .0) (p .2) (laying-corner a n (listed a rows columns figs) base ws fs room level row (getD columns k 0) below ws′ fs′ at entry-here e f value-is fs″ fe))
-              (λ (off : getD columns k 0 ≡ row → ⊥). ⊎-elim
-              (λ (z : a .ring .is-zero (a .meaning f) ≡ true).
-              let none = a .ring .tests-zero (a .meaning f) .0 z in
-              let p = w .nothing (λ e. off (e ∙ is)) none in
-              settled (p .0) (p .1) (p .2) (laying-pass a n (listed a rows columns figs) base ws fs room level row (getD columns k 0) below ws′ fs′ at entry-here (sym value-is ∙ none)))
-              (λ (z : a .ring .is-zero (a .meaning f) ≡ false).
-              let some : a .meaning f ≡ a .ring .zero → ⊥ = λ e. true-not-false (sym (a .ring .tests-zero (a .meaning f) .1 e) ∙ z) in
-              let p = w .cell (λ e. off (e ∙ is)) some in
-              laying-cell a n (listed a rows columns figs) base ws fs room level row (getD columns k 0) below ws′ fs′ at entry-here in-table (entry-stored off some) f value-is ws″ fs″ at′ (p .0) (p .1) (p .2))
-              (cases-bool (a .ring .is-zero (a .meaning f))))
-              (cases-eq (getD columns k 0) row);
+          laying = laying-entry a n (listed a rows columns figs) base ws fs room level row (getD columns k 0) below ws′ fs′ at entry-here in-table f value-is ws″ fs″ at′ (subst (λ r. EntryWritten a base r (getD columns k 0) f at ws′ fs′ ws″ fs″ at′) is w);
         }
-      where
-        true-not-false : true ≡ false → ⊥
-        true-not-false e = let z : _≡_ {A = ℕ} 0 1 = cc in omega arith
-
-        settled : ws″ ≡ ws′ → fs″ ≡ fs′ → at′ ≡ at → Laying a n (listed a rows columns figs) base ws fs row (getD columns k 0 + 1) ws′ fs′ at → Laying a n (listed a rows columns figs) base ws fs row (getD columns k 0 + 1) ws″ fs″ at′
-        settled we fe ae h = rw (we, fe, ae) h
-
-        moved : ws″ ≡ ws′ → at′ ≡ at → Laying a n (listed a rows columns figs) base ws fs row (getD columns k 0 + 1) ws′ fs″ at → Laying a n (listed a rows columns figs) base ws fs row (getD columns k 0 + 1) ws″ fs″ at′
-        moved we ae h = rw (we, ae) h
 
   module _ (k row : ℕ) (below : row < n) (ws′ : List ℕ) (fs′ : List S) (at : ℕ) (l : Loading a n rows columns figs base ws fs k row ws′ fs′ at) (over : (k < length rows) × (getD rows k 0 ≡ row) → ⊥) where
     -- the entries that are left lie in later rows
