@@ -1,13 +1,10 @@
 mod check;
-mod loading;
 mod packed;
 mod reading;
 mod refusal;
 mod weighing;
 
 pub use check::check_sheet;
-pub use loading::check_entries;
-pub use loading::loaded_length;
 pub use packed::packed_form_exists;
 pub use packed::packed_form_is_unique;
 pub use packed::sound_sheet_is_packed;
