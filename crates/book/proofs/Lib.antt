@@ -1,3 +1,5 @@
 pub mod Passing
 pub mod Starts
 pub mod Early
+pub mod Sheets
+pub mod Looking
