@@ -3,3 +3,5 @@ pub mod Starts
 pub mod Early
 pub mod Sheets
 pub mod Looking
+pub mod Singles
+pub mod Outcomes

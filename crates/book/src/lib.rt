@@ -3,6 +3,7 @@ mod check;
 mod limits;
 mod lookup;
 mod opening;
+mod single;
 mod striking;
 
 pub use lookup::cell;
@@ -11,4 +12,6 @@ pub use lookup::figures;
 pub use lookup::row;
 pub use opening::open;
 pub use sheet::Refusal;
+pub use single::lookup_is_single;
+pub use single::outcome_is_single;
 pub use striking::strike;
