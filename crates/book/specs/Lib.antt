@@ -4,3 +4,4 @@ pub mod Lines
 pub mod Checked
 pub mod Calls
 pub mod Lookups
+pub mod Single
