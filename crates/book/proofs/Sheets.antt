@@ -38,18 +38,18 @@ module _ {S : Type 0} (a : Figures S) (b : Arrays S) (sound : SoundBook a b) whe
     pub sheet-before : start-of b (k + 1) ≤ last-end b
     sheet-before = starts-rise a b (sound .header-rules) (k + 1) (sheets-of b) (omega arith) (omega arith)
 
-    pub index-long : length (sheet-index b k) ≡ start-of b (k + 1) - start-of b k
-    index-long = part-long (b .index) (start-of b k) (start-of b (k + 1)) sheet-to
+    pub sheet-index-long : length (sheet-index b k) ≡ start-of b (k + 1) - start-of b k
+    sheet-index-long = part-long (b .index) (start-of b k) (start-of b (k + 1)) sheet-to
 
-    pub figures-long : length (part (b .figures) (start-of b k) (start-of b (k + 1))) ≡ length (sheet-index b k)
-    figures-long =
+    pub sheet-figures-long : length (part (b .figures) (start-of b k) (start-of b (k + 1))) ≡ length (sheet-index b k)
+    sheet-figures-long =
         let to = sheet-to in
         let same = sound .lengths in
-        part-long (b .figures) (start-of b k) (start-of b (k + 1)) (omega arith) ∙ sym index-long
+        part-long (b .figures) (start-of b k) (start-of b (k + 1)) (omega arith) ∙ sym sheet-index-long
 
     pub sheet-sound : Sound (a .ring) (order-of b) (sheet-index b k) (sheet-figures a b k)
     sheet-sound =
-        let long = index-long in
+        let long = sheet-index-long in
         let from = sheet-from in
         let end = sheet-before in
         record {
@@ -71,7 +71,7 @@ module _ {S : Type 0} (a : Figures S) (b : Arrays S) (sound : SoundBook a b) whe
 
     pub row-ends : (row : ℕ) → row < order-of b → row-to b k row ≤ start-of b (k + 1)
     row-ends row below =
-        let long = index-long in
+        let long = sheet-index-long in
         let from = sheet-from in
         let end = row-within (a .ring) (order-of b) (sheet-index b k) (sheet-figures a b k) sheet-sound (row + 1) (omega arith) in
         omega arith
@@ -82,4 +82,4 @@ module _ {S : Type 0} (a : Figures S) (b : Arrays S) (k from to : ℕ) (at : She
   place-sound = rw (at .from, at .to) (sheet-sound a b (at .sound) k (at .there))
 
   pub place-long : length (part (b .figures) from to) ≡ length (part (b .index) from to)
-  place-long = rw (at .from, at .to) (figures-long a b (at .sound) k (at .there))
+  place-long = rw (at .from, at .to) (sheet-figures-long a b (at .sound) k (at .there))
