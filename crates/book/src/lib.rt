@@ -2,8 +2,8 @@
 mod check;
 mod limits;
 mod loading;
-mod making;
 mod lookup;
+mod making;
 mod opening;
 mod single;
 mod striking;
