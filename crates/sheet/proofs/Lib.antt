@@ -11,3 +11,5 @@ pub mod Unique
 pub mod Sought
 pub mod Loads
 pub mod Diagonals
+pub mod Cursors
+pub mod Merges

@@ -231,5 +231,5 @@ module _ {S : Type 0} (a : Figures S) (n : ℕ) (rows columns : List ℕ) (figs 
   pub stored-listed : (k : ℕ) → k < length rows → (f : S) → f ≡ getD figs k f → stored (a .ring) (getD rows k 0) (listed a rows columns figs (getD rows k 0)) (getD columns k 0) ≡ (not (eqb (getD columns k 0) (getD rows k 0)) && not (a .ring .is-zero (a .meaning f)))
   stored-listed k low f is = ap (λ x. not (eqb (getD columns k 0) (getD rows k 0)) && not (a .ring .is-zero x)) (cell-listed a n rows columns figs even even′ placed k low (a .ring .zero) ∙ sym (read-means a figs k f (a .ring .zero) (omega arith) is))
 
-  pub counted-next : (k : ℕ) → k < length rows → (count : ℕ) → Counted a n rows columns figs k count → (f : S) → f ≡ getD figs k f → (b : Bool) → b ≡ (not (eqb (getD columns k 0) (getD rows k 0)) && not (a .ring .is-zero (a .meaning f))) → (count′ : ℕ) → count′ ≡ count + cond b 1 0 → Counted a n rows columns figs (k + 1) count′
-  counted-next k low count m f is b told count′ e = subst (λ x. Counted a n rows columns figs (k + 1) x) (sym e) (counted-more k low count m b (stored-listed k low f is ∙ sym told))
+  pub counted-next : (k : ℕ) → k < length rows → (count : ℕ) → Counted a n rows columns figs k count → (f : S) → f ≡ getD figs k f → (more : ℕ) → more ≡ cond (not (eqb (getD columns k 0) (getD rows k 0)) && not (a .ring .is-zero (a .meaning f))) 1 0 → Counted a n rows columns figs (k + 1) (count + more)
+  counted-next k low count m f is more told = subst (λ x. Counted a n rows columns figs (k + 1) (count + x)) (sym told) (counted-more k low count m _ (stored-listed k low f is))

@@ -4,4 +4,5 @@ pub mod Packed
 pub mod Checking
 pub mod Loading
 pub mod Writing
+pub mod Cursors
 pub mod Forms

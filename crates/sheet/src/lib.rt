@@ -1,3 +1,4 @@
+mod adding;
 mod check;
 mod loading;
 mod packed;

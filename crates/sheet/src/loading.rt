@@ -2,7 +2,7 @@ ghost use mathlib.Core.Path.{_≡_};
 ghost use Prim.Native.Nat.{ℕ, _+_, _<_, _≤_};
 ghost use lib.Dec.{eqb};
 ghost use lib.ListN.{length, getD};
-ghost use mathlib.Core.Bool.{not, _&&_};
+ghost use mathlib.Core.Bool.{cond, not, _&&_};
 ghost use Rattle.std.specs.Orderings.{Decides};
 ghost use Rattle.sheet.specs.Packed.{packed-length};
 ghost use Rattle.sheet.specs.Writing.{Appended, EntryWritten};
@@ -37,11 +37,16 @@ pub fn check_entries(order: usize, rows: &[u32], columns: &[u32]) -> Result<(), 
     Ok(())
 }
 
-// Whether a figure of this cell is stored off the diagonal.
-fn is_stored<F: Arithmetic>(row: u32, column: u32, figure: F) -> bool
-    ensures { λ r. ⌜ r ≡ (not (eqb column row) && not (F·Arithmetic .figures .ring .is-zero (F·Arithmetic .figures .meaning figure))) ⌝ }
+// How many places the figure of a cell takes off the diagonal: one if it is stored, else none.
+pub(crate) fn places<F: Arithmetic>(row: usize, column: usize, figure: F) -> usize
+    ensures count { λ r. ⌜ r ≡ cond (not (eqb column row) && not (F·Arithmetic .figures .ring .is-zero (F·Arithmetic .figures .meaning figure))) 1 0 ⌝ }
+    ensures small { λ r. ⌜ r ≤ 1 ⌝ }
 {
-    column != row && !figure.is_zero()
+    if column != row && !figure.is_zero() {
+        1
+    } else {
+        0
+    }
 }
 
 // How long the packed form of a list's table is.
@@ -57,16 +62,14 @@ pub fn loaded_length<F: Arithmetic>(
 {
     let mut length = order + 1;
     for k in 0..rows.len() {
-        if is_stored(rows[k], columns[k], figures[k]) {
-            length += 1;
-        }
+        length += places(rows[k] as usize, columns[k] as usize, figures[k]);
     }
     length
 }
 
 // Writes the figure of one cell to a sheet that starts at `base`; if it is stored off the diagonal, it goes to `at`.
 // Answers where the next stored cell goes.
-fn write_entry<F: Arithmetic>(
+pub(crate) fn write_entry<F: Arithmetic>(
     base: usize,
     index: &mut [u32],
     figures: &mut [F],
