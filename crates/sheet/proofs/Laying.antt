@@ -17,10 +17,10 @@ use Rattle.arithmetic.specs.Semiring.{Semiring, Figures, meanings}
 use Rattle.matrix.specs.Tables.{Table}
 use Rattle.matrix.proofs.Meant.{length-meanings}
 use Rattle.sheet.specs.Packed.{joined-over, stored, columns-below, row-columns, row-start, packed-length, packed-index, packed-figures}
-use Rattle.sheet.specs.Writing.{placed, Appended, EntryWritten}
+use Rattle.sheet.specs.Writing.{part, placed, Appended, EntryWritten}
 use Rattle.sheet.proofs.Columns.{zero-not-stored, columns-yes, columns-no, columns-room, columns-grow}
 use Rattle.sheet.proofs.Packs.{row-start-is, figures-long}
-use Rattle.sheet.proofs.Halves.{half, half-none, half-mark, half-again, half-push, half-all}
+use Rattle.sheet.proofs.Halves.{half, half-none, half-mark, half-again, half-push, half-all, half-part}
 
 false-not-true : false ≡ true → ⊥
 false-not-true e = let z : _≡_ {A = ℕ} 0 1 = cc in omega arith
@@ -273,3 +273,9 @@ module _ {S : Type 0} (a : Figures S) (n : ℕ) (t : Table (a .F)) (base : ℕ) 
         },
         omega (arith, l .at-is),
       )
+
+  -- what lies before the sheet stays
+  pub laying-part : (r c : ℕ) (ws′ : List ℕ) (fs′ : List S) (at : ℕ) → Laying a n t base ws fs r c ws′ fs′ at → (from to : ℕ) → to ≤ base → (part ws′ from to ≡ part ws from to) × (part fs′ from to ≡ part fs from to)
+  laying-part r c ws′ fs′ at l from to low =
+      let fits = head-room in
+      (ap (λ d. part d from to) (l .words-are) ∙ half-part ws base n (map (row-start (a .ring) n t) (counting 0 (suc r))) (before (a .ring) n t r c) from to low fits, ap (λ d. part d from to) (l .figures-are) ∙ half-part fs base n (l .diagonal ++ l .corner ∷ []) (l .cells) from to low (omega arith))

@@ -1,11 +1,15 @@
 -- What a new sheet leaves in the arrays that it was written to.
 use mathlib.Core.Path.{_≡_}
 use mathlib.Core.List.{List, _++_}
-use Prim.Native.Nat.{ℕ, _+_}
+use Prim.Native.Nat.{ℕ, _+_, _-_}
 use lib.ListN.{length, take, drop, set}
 use Rattle.arithmetic.specs.Semiring.{Figures, meanings}
 use Rattle.matrix.specs.Tables.{Table}
 use Rattle.sheet.specs.Packed.{packed-index, packed-figures}
+
+-- the places from `from` up to `to`
+abbrev pub part : {A : Type 0} → List A → ℕ → ℕ → List A
+part xs from to = take (to - from) (drop from xs)
 
 -- xs over the places of d from `at` on; the other places are as they were
 abbrev pub placed : {A : Type 0} → List A → ℕ → List A → List A
