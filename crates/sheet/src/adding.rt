@@ -68,7 +68,7 @@ fn next_column(
 }
 
 // How long the packed form of the sum of two sheets is.
-pub fn added_length<F: Arithmetic>(
+fn added_length<F: Arithmetic>(
     order: usize,
     first: &[u32],
     first_figures: &[F],
@@ -220,4 +220,29 @@ pub fn write_added<F: Arithmetic>(
             from = 0;
         }
     }
+}
+
+// The length of the sum of two sheets of the same arrays.
+pub fn added_length_at<F: Arithmetic>(
+    order: usize,
+    index: &[u32],
+    figures: &[F],
+    first: usize,
+    first_end: usize,
+    second: usize,
+    second_end: usize,
+) -> usize
+    requires one { ⌜ Sound (F·Arithmetic .figures .ring) order (part (now index) first «first_end») (meanings (F·Arithmetic .figures) (part (now figures) first «first_end»)) ⌝ }
+    requires two { ⌜ Sound (F·Arithmetic .figures .ring) order (part (now index) second «second_end») (meanings (F·Arithmetic .figures) (part (now figures) second «second_end»)) ⌝ }
+    requires ends { ⌜ first ≤ «first_end» ⌝ ∗ ⌜ «first_end» ≤ length (now index) ⌝ ∗ ⌜ second ≤ «second_end» ⌝ ∗ ⌜ «second_end» ≤ length (now index) ⌝ }
+    requires sizes { ⌜ length (now figures) ≡ length (now index) ⌝ ∗ ⌜ length (now index) ≤ 65536 ⌝ ∗ ⌜ order ≤ 1024 ⌝ }
+    ensures { λ r. ⌜ r ≡ packed-length (F·Arithmetic .figures .ring) order (added (F·Arithmetic .figures .ring) (table (F·Arithmetic .figures .ring) (part (now (index .entry)) first «first_end») (meanings (F·Arithmetic .figures) (part (now (figures .entry)) first «first_end»))) (table (F·Arithmetic .figures .ring) (part (now (index .entry)) second «second_end») (meanings (F·Arithmetic .figures) (part (now (figures .entry)) second «second_end»)))) ⌝ }
+{
+    added_length(
+        order,
+        &index[first..first_end],
+        &figures[first..first_end],
+        &index[second..second_end],
+        &figures[second..second_end],
+    )
 }

@@ -7,6 +7,8 @@ mod refusal;
 mod units;
 mod weighing;
 
+pub use adding::added_length_at;
+pub use adding::write_added;
 pub use check::check_sheet;
 pub use loading::check_entries;
 pub use loading::loaded_length;
