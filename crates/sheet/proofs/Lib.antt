@@ -11,3 +11,4 @@ pub mod Unique
 pub mod Sought
 pub mod Loads
 pub mod Diagonals
+pub mod Scatters

@@ -5,3 +5,4 @@ pub mod Checking
 pub mod Loading
 pub mod Writing
 pub mod Forms
+pub mod Working

@@ -5,6 +5,7 @@ mod reading;
 mod refusal;
 mod units;
 mod weighing;
+mod working;
 
 pub use check::check_sheet;
 pub use loading::check_entries;
@@ -17,3 +18,5 @@ pub use reading::cell_of;
 pub use refusal::Refusal;
 pub use units::write_unit;
 pub use weighing::weigh;
+pub use working::work_columns;
+pub use working::work_rows;
