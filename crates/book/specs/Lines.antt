@@ -71,6 +71,10 @@ module _ {S : Type 0} (b : Arrays S) where
   abbrev pub outside-row : ℕ → Line
   outside-row row = line Misplaced (λ p. (p ≡ 0) × (order-of b ≤ row))
 
+  -- 0: the vector in is not as long as the order; else 1: the vector out is not
+  abbrev pub vector-lengths : List S → List S → Line
+  vector-lengths given out = line Lengths (λ p. ((p ≡ 0) × (length given ≡ order-of b → ⊥)) ⊎ ((p ≡ 1) × (length given ≡ order-of b) × (length out ≡ order-of b → ⊥)))
+
 module _ {S : Type 0} (a : Figures S) (b : Arrays S) where
   -- the first position of the index array that breaks its rule
   abbrev pub position : Line
