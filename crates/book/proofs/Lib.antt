@@ -6,3 +6,4 @@ pub mod Sheets
 pub mod Looking
 pub mod Singles
 pub mod Outcomes
+pub mod Worked

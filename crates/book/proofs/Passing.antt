@@ -9,7 +9,7 @@ use Rattle.arithmetic.specs.Semiring.{Figures}
 use Rattle.sheet.specs.Packed.{FirstBreak}
 use Rattle.sheet.specs.declared.refusal.Refusal.{Refusal}
 use Rattle.book.specs.Book.{Arrays, SoundBook, order-of, sheets-of, last-end}
-use Rattle.book.specs.Lines.{Line, Passes, Granted, SentBack, layout, header, missing, outside, outside-row, position, guard}
+use Rattle.book.specs.Lines.{Line, Passes, Granted, SentBack, layout, header, missing, outside, outside-row, vector-lengths, position, guard}
 use Rattle.book.specs.Checked.{Laid, Headed}
 
 pub sent-on : (ls ms : List Line) (why : Refusal) → SentBack ls why → SentBack (ls ++ ms) why
@@ -50,3 +50,6 @@ module _ {S : Type 0} (b : Arrays S) where
 
   pub outside-passes : (row column : ℕ) → row < order-of b → column < order-of b → Passes (outside b row column)
   outside-passes row column low low′ why fault = ⊎-elim (λ f. let high = f .1 in absurd (omega arith)) (λ f. let high = f .2 in absurd (omega arith)) (fault .2)
+
+  pub vector-lengths-passes : (given out : List S) → length given ≡ order-of b → length out ≡ order-of b → Passes (vector-lengths b given out)
+  vector-lengths-passes given out long long′ why fault = ⊎-elim (λ f. f .1 long) (λ f. f .2 long′) (fault .2)

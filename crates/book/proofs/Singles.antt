@@ -9,8 +9,8 @@ use Rattle.arithmetic.specs.Semiring.{Figures}
 use Rattle.matrix.specs.Tables.{Table}
 use Rattle.sheet.specs.Packed.{FirstBreak}
 use Rattle.sheet.specs.declared.refusal.Refusal.{Refusal}
-use Rattle.book.specs.Book.{Arrays}
-use Rattle.book.specs.Lines.{Line, line, Granted, SentBack, LayoutFault, FirstMissing, layout, order, header, list-lengths, missing, none-to-strike, full, outside, outside-row, misplaced, position, room}
+use Rattle.book.specs.Book.{Arrays, sheets-of}
+use Rattle.book.specs.Lines.{Line, line, Granted, SentBack, LayoutFault, FirstMissing, layout, order, header, list-lengths, missing, none-to-strike, full, outside, outside-row, vector-lengths, misplaced, position, room}
 
 -- at most one refusal
 abbrev pub Single : Line → Type 0
@@ -57,7 +57,7 @@ module _ {S : Type 0} (b : Arrays S) where
   layout-one p q (inr (inr f)) (inr (inl g)) = absurd (g .2 (f .2))
   layout-one p q (inr (inr f)) (inr (inr g)) = f .0 ∙ sym (g .0)
 
-  missing-one : (names : List ℕ) → One (FirstMissing b names)
+  missing-one : (names : List ℕ) → One (FirstMissing (sheets-of b) names)
   missing-one [] p q at at′ = absurd at
   missing-one (k ∷ ks) p q (inl f) (inl g) = f .1 ∙ sym (g .1)
   missing-one (k ∷ ks) p q (inl f) (inr g) = let high = f .0 in let low = g .0 in absurd (omega arith)
@@ -87,6 +87,12 @@ module _ {S : Type 0} (b : Arrays S) where
 
   pub outside-row-single : (row : ℕ) → Single (outside-row b row)
   outside-row-single row = line-single _ _ (λ p q f g. f .0 ∙ sym (g .0))
+
+  pub vector-lengths-single : (given out : List S) → Single (vector-lengths b given out)
+  vector-lengths-single given out = line-single _ _ (λ p q f g. ⊎-elim
+      (λ x. ⊎-elim (λ y. x .0 ∙ sym (y .0)) (λ y. absurd (x .1 (y .1))) g)
+      (λ x. ⊎-elim (λ y. absurd (y .1 (x .1))) (λ y. x .0 ∙ sym (y .0)) g)
+      f)
 
 module _ {S : Type 0} (a : Figures S) (b : Arrays S) where
   pub position-single : Single (position a b)

@@ -4,4 +4,5 @@ pub mod Lines
 pub mod Checked
 pub mod Calls
 pub mod Lookups
+pub mod Workings
 pub mod Single

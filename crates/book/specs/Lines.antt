@@ -34,6 +34,11 @@ abbrev pub SentBack : List Line → Refusal → Type 0
 SentBack [] why = ⊥
 SentBack (l ∷ ls) why = l why ⊎ (Passes l × SentBack ls why)
 
+-- the first of the named sheets that a book of so many sheets has not
+abbrev pub FirstMissing : ℕ → List ℕ → ℕ → Type 0
+FirstMissing sheets [] p = ⊥
+FirstMissing sheets (k ∷ ks) p = ((sheets ≤ k) × (p ≡ k)) ⊎ ((k < sheets) × FirstMissing sheets ks p)
+
 module _ {S : Type 0} (b : Arrays S) where
   -- 0: the header has not the right number of words; else 1: index and figures differ in length; else 2: they are too long
   abbrev pub LayoutFault : ℕ → Type 0
@@ -52,13 +57,9 @@ module _ {S : Type 0} (b : Arrays S) where
   abbrev pub header : Line
   header = line Header (FirstBreak (HeaderRule (b .header) (capacity b)) header-words)
 
-  -- the first of the named sheets that the book has not
-  abbrev pub FirstMissing : List ℕ → ℕ → Type 0
-  FirstMissing [] p = ⊥
-  FirstMissing (k ∷ ks) p = ((sheets-of b ≤ k) × (p ≡ k)) ⊎ ((k < sheets-of b) × FirstMissing ks p)
-
+  -- one of the named sheets is not there
   abbrev pub missing : List ℕ → Line
-  missing names = line Sheet (FirstMissing names)
+  missing names = line Sheet (FirstMissing (sheets-of b) names)
 
   -- there is no sheet to strike
   abbrev pub none-to-strike : Line
@@ -70,6 +71,10 @@ module _ {S : Type 0} (b : Arrays S) where
 
   abbrev pub outside-row : ℕ → Line
   outside-row row = line Misplaced (λ p. (p ≡ 0) × (order-of b ≤ row))
+
+  -- 0: the vector in is not as long as the order; else 1: the vector out is not
+  abbrev pub vector-lengths : List S → List S → Line
+  vector-lengths given out = line Lengths (λ p. ((p ≡ 0) × (length given ≡ order-of b → ⊥)) ⊎ ((p ≡ 1) × (length given ≡ order-of b) × (length out ≡ order-of b → ⊥)))
 
 module _ {S : Type 0} (a : Figures S) (b : Arrays S) where
   -- the first position of the index array that breaks its rule

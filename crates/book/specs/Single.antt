@@ -6,10 +6,12 @@ use denote.Ref.{RefT}
 use Rattle.std.specs.declared.result.Result.{Result}
 use Rattle.std.specs.declared.result.Result.the-variants.{Ok, Err}
 use Rattle.arithmetic.specs.Semiring.{Figures, meanings}
+use Rattle.matrix.specs.Vectors.{Vector}
 use Rattle.sheet.specs.declared.refusal.Refusal.{Refusal}
 use Rattle.book.specs.Book.{Arrays}
 use Rattle.book.specs.Calls.{Call, Open, Unit′, Load, Strike, Outcome}
 use Rattle.book.specs.Lookups.{CellIs, RowIs, RowPartIs}
+use Rattle.book.specs.Workings.{Worked}
 
 -- the same words, and figures that mean the same one by one
 pub record Alike {S : Type 0} (a : Figures S) (x y : Arrays S) : Type 0 where
@@ -44,6 +46,11 @@ abbrev pub held : {A : Type 0} → Result (RefT A) Refusal → Result A Refusal
 held (Ok found) = Ok (found .now)
 held (Err why) = Err why
 
+-- a call, answered so, was refused
+abbrev pub Refused : {A : Type 0} → Result A Refusal → Type 0
+Refused (Ok answer) = ⊥
+Refused (Err why) = Unit {0}
+
 module _ {S : Type 0} (a : Figures S) where
   abbrev pub CellIsSingle : Type 0
   CellIsSingle = (b : Arrays S) (k row column : ℕ) (r r′ : Result S Refusal) → CellIs a b k row column r → CellIs a b k row column r′ → meant a r ≡ meant a r′
@@ -56,3 +63,12 @@ module _ {S : Type 0} (a : Figures S) where
 
   abbrev pub FiguresAreSingle : Type 0
   FiguresAreSingle = (b : Arrays S) (k row : ℕ) (r r′ : Result (RefT (List S)) Refusal) → RowPartIs a b (b .figures) k row r → RowPartIs a b (b .figures) k row r′ → held r ≡ held r′
+
+  -- two outcomes of one working have the same answer and leave the same meanings in the vector out; refused, the same
+  -- figures. It holds of a sheet times a vector and of a vector times a sheet: v is the vector that the working makes
+  abbrev pub WorkingIsSingle : Type 0
+  WorkingIsSingle =
+      (b : Arrays S) (v : Vector (a .F)) (k : ℕ) (given out : List S) (r r′ : Result ℕ Refusal) (after after′ : List S) →
+      Worked a b v k given out r after →
+      Worked a b v k given out r′ after′ →
+      (r ≡ r′) × (meanings a after ≡ meanings a after′) × (Refused r → after ≡ after′)

@@ -8,6 +8,7 @@ mod opening;
 mod single;
 mod striking;
 mod units;
+mod working;
 
 pub use loading::load;
 pub use lookup::cell;
@@ -18,5 +19,8 @@ pub use opening::open;
 pub use sheet::Refusal;
 pub use single::lookup_is_single;
 pub use single::outcome_is_single;
+pub use single::working_is_single;
 pub use striking::strike;
 pub use units::unit;
+pub use working::column_working;
+pub use working::row_working;

@@ -14,3 +14,4 @@ pub mod Diagonals
 pub mod Cursors
 pub mod Merges
 pub mod Summing
+pub mod Scatters

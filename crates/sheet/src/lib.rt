@@ -6,6 +6,7 @@ mod reading;
 mod refusal;
 mod units;
 mod weighing;
+mod working;
 
 pub use adding::added_length_at;
 pub use adding::write_added;
@@ -20,3 +21,5 @@ pub use reading::cell_of;
 pub use refusal::Refusal;
 pub use units::write_unit;
 pub use weighing::weigh;
+pub use working::work_columns;
+pub use working::work_rows;
