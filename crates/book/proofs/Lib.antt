@@ -7,3 +7,4 @@ pub mod Looking
 pub mod Singles
 pub mod Outcomes
 pub mod Worked
+pub mod Pairs

@@ -45,6 +45,9 @@ module _ {S : Type 0} (b : Arrays S) where
   pub missing-passes : (k : ℕ) → k < sheets-of b → Passes (missing b (k ∷ []))
   missing-passes k there why fault = ⊎-elim (λ f. let high = f .0 in absurd (omega arith)) (λ f. f .1) (fault .2)
 
+  pub pair-passes : (i j : ℕ) → i < sheets-of b → j < sheets-of b → Passes (missing b (i ∷ (j ∷ [])))
+  pair-passes i j low low′ why fault = ⊎-elim (λ f. let high = f .0 in absurd (omega arith)) (λ f. ⊎-elim (λ h. let high = h .0 in absurd (omega arith)) (λ h. h .1) (f .1)) (fault .2)
+
   pub outside-row-passes : (row : ℕ) → row < order-of b → Passes (outside-row b row)
   outside-row-passes row low why fault = let high = fault .2 .1 in absurd (omega arith)
 

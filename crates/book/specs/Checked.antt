@@ -7,9 +7,9 @@ use Rattle.std.specs.declared.result.Result.{Result}
 use Rattle.std.specs.declared.result.Result.the-variants.{Ok, Err}
 use Rattle.arithmetic.specs.Semiring.{Figures}
 use Rattle.sheet.specs.declared.refusal.Refusal.{Refusal}
-use Rattle.book.specs.Limits.{header-words, largest-capacity}
+use Rattle.book.specs.Limits.{header-words, most-sheets, largest-capacity}
 use Rattle.book.specs.Book.{Arrays, SoundBook, HeaderRule, order-of, sheets-of, capacity, start-of}
-use Rattle.book.specs.Lines.{Line, Passes, SentBack, guard, layout, header, missing}
+use Rattle.book.specs.Lines.{Line, Passes, SentBack, guard, pair-guard, layout, header, missing}
 
 -- the three arrays have the lengths that they should
 pub record Laid {S : Type 0} (b : Arrays S) : Type 0 where
@@ -57,3 +57,8 @@ sheet-guard a b k = guard a b ++ (missing b (k ∷ []) ∷ [])
 abbrev pub SheetFound : {S : Type 0} → Figures S → Arrays S → ℕ → Result (ℕ × ℕ) Refusal → Type 0
 SheetFound a b k (Ok place) = SheetLies a b k place
 SheetFound a b k (Err why) = SentBack (sheet-guard a b k) why
+
+-- the places of sheets i and j, and there is a number for a new one; or the call is sent back
+abbrev pub PairFound : {S : Type 0} → Figures S → Arrays S → ℕ → ℕ → Result ((ℕ × ℕ) × (ℕ × ℕ)) Refusal → Type 0
+PairFound a b i j (Ok places) = SheetLies a b i (places .0) × SheetLies a b j (places .1) × (sheets-of b < most-sheets)
+PairFound a b i j (Err why) = SentBack (pair-guard a b i j) why

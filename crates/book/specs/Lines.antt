@@ -100,3 +100,7 @@ misplaced n rows columns = line Misplaced (FirstBreak (Placed n rows columns) (l
 -- the new sheet is longer than what is left of the capacity
 abbrev pub room : ℕ → ℕ → Line
 room size left = line Room (λ p. (p ≡ size) × (left < p))
+
+-- the lines that a call on sheets i and j that makes a new one begins with
+abbrev pub pair-guard : {S : Type 0} → Figures S → Arrays S → ℕ → ℕ → List Line
+pair-guard a b i j = guard a b ++ (missing b (i ∷ (j ∷ [])) ∷ (full (sheets-of b) ∷ []))

@@ -1,4 +1,5 @@
 // The calls on a book that lies in three given arrays.
+mod adding;
 mod check;
 mod limits;
 mod loading;
@@ -10,6 +11,7 @@ mod striking;
 mod units;
 mod working;
 
+pub use adding::add;
 pub use loading::load;
 pub use lookup::cell;
 pub use lookup::columns;
