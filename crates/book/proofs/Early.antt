@@ -22,3 +22,9 @@ pub late : {S A : Type 0} (a : Figures S) (b : Arrays S) (sound : SoundBook a b)
 late a b sound more r why came sent =
     let p = err-from-errBy r came in
     (p .0, p .1, rw (p .2) (sent-after (guard a b) more why (guard-passes b a sound) sent))
+
+-- the same, by any lines
+pub early-by : {A : Type 0} (lines more : List Line) (r : Result A Refusal) (why : Refusal) → ErrBy r (λ y. y ≡ why) → SentBack lines why → (y : Refusal) × (r ≡ Err y) × SentBack (lines ++ more) y
+early-by lines more r why came sent =
+    let p = err-from-errBy r came in
+    (p .0, p .1, rw (p .2) (sent-on lines more why sent))

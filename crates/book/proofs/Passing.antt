@@ -8,8 +8,8 @@ use lib.ListN.{length, getD}
 use Rattle.arithmetic.specs.Semiring.{Figures}
 use Rattle.sheet.specs.Packed.{FirstBreak}
 use Rattle.sheet.specs.declared.refusal.Refusal.{Refusal}
-use Rattle.book.specs.Book.{Arrays, SoundBook, order-of, last-end}
-use Rattle.book.specs.Lines.{Line, Passes, Granted, SentBack, layout, header, position, guard}
+use Rattle.book.specs.Book.{Arrays, SoundBook, order-of, sheets-of, last-end}
+use Rattle.book.specs.Lines.{Line, Passes, Granted, SentBack, layout, header, missing, outside, outside-row, position, guard}
 use Rattle.book.specs.Checked.{Laid, Headed}
 
 pub sent-on : (ls ms : List Line) (why : Refusal) → SentBack ls why → SentBack (ls ++ ms) why
@@ -41,3 +41,12 @@ module _ {S : Type 0} (b : Arrays S) where
 
   pub guard-passes : (a : Figures S) → SoundBook a b → Granted (guard a b)
   guard-passes a sound = (layout-passes (sound-laid a sound), (header-passes (sound .header-rules), ((λ why fault. no-break _ _ (fault .0) (sound .positions) (fault .2)), tt)))
+
+  pub missing-passes : (k : ℕ) → k < sheets-of b → Passes (missing b (k ∷ []))
+  missing-passes k there why fault = ⊎-elim (λ f. let high = f .0 in absurd (omega arith)) (λ f. f .1) (fault .2)
+
+  pub outside-row-passes : (row : ℕ) → row < order-of b → Passes (outside-row b row)
+  outside-row-passes row low why fault = let high = fault .2 .1 in absurd (omega arith)
+
+  pub outside-passes : (row column : ℕ) → row < order-of b → column < order-of b → Passes (outside b row column)
+  outside-passes row column low low′ why fault = ⊎-elim (λ f. let high = f .1 in absurd (omega arith)) (λ f. let high = f .2 in absurd (omega arith)) (fault .2)

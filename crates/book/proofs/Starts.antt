@@ -32,7 +32,7 @@ abbrev pub SheetsKeep : {S : Type 0} → Figures S → Arrays S → ℕ → Type
 SheetsKeep a b k = (j : ℕ) → j < k → (p : ℕ) → p < length (sheet-index b j) → Rule (a .ring) (order-of b) (sheet-index b j) (sheet-figures a b j) p
 
 module _ {S : Type 0} (a : Figures S) (b : Arrays S) (h : Headed b) where
-  starts-rise : (i j : ℕ) → i ≤ j → j ≤ sheets-of b → start-of b i ≤ start-of b j
+  pub starts-rise : (i j : ℕ) → i ≤ j → j ≤ sheets-of b → start-of b i ≤ start-of b j
   starts-rise i zero low high = let e : i ≡ 0 = omega arith in rw e (omega arith)
   starts-rise i (suc j) low high = ⊎-elim
       (λ (less : i < suc j).
