@@ -143,28 +143,28 @@ impl<F: Arithmetic> Book<F> {
 
 impl<F> Book<F> {
     // A word of the header, or 0 where there is none.
-    fn word(&self, place: usize) -> usize {
+    fn word(&self, place: usize) -> u32 {
         match self.header.get(place) {
-            Some(word) => *word as usize,
+            Some(word) => *word,
             None => 0,
         }
     }
 
     pub(crate) fn order(&self) -> usize {
-        self.word(0)
+        self.word(0) as usize
     }
 }
 
 // The header, and the two packed arrays up to the last end, sheet by sheet.
 pub(crate) impl<F: fmt::Display> fmt::Display for Book<F> as BookDisplay {
     fn fmt<W: fmt::Write>(&self, f: &mut fmt::Formatter<W>) -> fmt::Result {
-        let sheets = self.word(1);
+        let sheets = self.word(1) as usize;
         let count = Counted(sheets, "sheet", "sheets");
         let header = Listed(self.header.as_slice());
         write!(f, "{count}.\n   header: {header}")?;
-        for sheet in 0..sheets.min(HEADER_WORDS) {
-            let from = self.word(2 + sheet);
-            let to = self.word(3 + sheet);
+        for sheet in 0..sheets {
+            let from = self.word(2 + sheet) as usize;
+            let to = self.word(3 + sheet) as usize;
             if let Some(words) = self.index.get(from..to) {
                 let index = Listed(words);
                 write!(f, "\n   sheet {sheet}, index: {index}")?;

@@ -20,6 +20,7 @@ use arithmetic::Arithmetic;
 use std::alloc::Global;
 use std::fmt;
 
+// Opens a book in new arrays, in place of the one before.
 fn answer_open<F: Arithmetic>(
     heap: Global,
     book: &mut Book<F>,
@@ -49,7 +50,7 @@ fn answer_row<F: Arithmetic + fmt::Display>(
     )
 }
 
-// Makes the call of a command, and answers its answer in words.
+// Makes the call of a command, and gives its answer in words.
 fn answer<F: Arithmetic + fmt::Display>(
     heap: Global,
     book: &mut Book<F>,
