@@ -24,8 +24,11 @@ pub(crate) trait Figure: Arithmetic {
         ensures { λ r. ⌜ Reads spells (now (word .entry)) r ⌝ };
 }
 
+// What is expected of a word that is a number.
+pub(crate) const WHOLE_NUMBER: &str = "a whole number from 0 to 4294967295";
+
 // The number that digits write; none at a sign, at any other character or above 4294967295.
-fn whole_number(word: &str) -> Option<u32>
+pub(crate) fn whole_number(word: &str) -> Option<u32>
     ensures { λ r. ⌜ Reads Writes (now (word .entry)) r ⌝ }
 {
     match word.as_bytes() {
@@ -45,7 +48,7 @@ fn row(text: &str) -> Option<(Amount, Amount)>
 pub(crate) impl Figure for Amount as AmountFigure {
     ghost spells = { SpellsAmount };
 
-    const EXPECTED: &'static str = "a whole number from 0 to 4294967295";
+    const EXPECTED: &'static str = WHOLE_NUMBER;
 
     fn read(word: &str) -> Option<Amount> {
         Some(Amount::new(whole_number(word)?))

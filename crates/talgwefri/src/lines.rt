@@ -1,9 +1,17 @@
-// The lines of an input and their words.
+// The lines of a script and their words.
 use crate::fault::Fault;
 use crate::fault::FaultFromAlloc;
 use crate::fault::FaultFromRefused;
 use crate::figure::Figure;
+use crate::figure::WHOLE_NUMBER;
+use crate::figure::whole_number;
 use std::alloc::Global;
+
+const LARGEST_CAPACITY: u32 = 1_000_000;
+
+const CAPACITY: &str = "a whole number from 0 to 1000000";
+
+const END_OF_LINE: &str = "the end of the line";
 
 // A line that counts: neither blank nor a comment.
 #[derive(Drop)]
@@ -14,13 +22,36 @@ pub(crate) struct Line<'a> {
     pub(crate) rest: Vec<&'a str>,
 }
 
+// The words after the head have places, from 0 on.
 impl Line<'_> {
-    // The one word after the head.
-    pub(crate) fn only_word(&self, heap: Global, expected: &'static str) -> Result<&str, Fault> {
-        match self.rest.as_slice() {
-            [] => Err(Fault::end_of_line(self.number, expected)),
-            [word] => Ok(*word),
-            [_, more, ..] => Err(Fault::word(heap, self.number, "the end of the line", *more)),
+    pub(crate) fn word_at(&self, place: usize, expected: &'static str) -> Result<&str, Fault> {
+        match self.rest.get(place) {
+            Some(word) => Ok(*word),
+            None => Err(Fault::end_of_line(self.number, expected)),
+        }
+    }
+
+    pub(crate) fn number_at(&self, heap: Global, place: usize) -> Result<u32, Fault> {
+        let word = self.word_at(place, WHOLE_NUMBER)?;
+        match whole_number(word) {
+            Some(n) => Ok(n),
+            None => Err(Fault::word(heap, self.number, WHOLE_NUMBER, word)),
+        }
+    }
+
+    pub(crate) fn capacity_at(&self, heap: Global, place: usize) -> Result<u32, Fault> {
+        let word = self.word_at(place, CAPACITY)?;
+        match whole_number(word) {
+            Some(n) if n <= LARGEST_CAPACITY => Ok(n),
+            _ => Err(Fault::word(heap, self.number, CAPACITY, word)),
+        }
+    }
+
+    pub(crate) fn figure_at<F: Figure>(&self, heap: Global, place: usize) -> Result<F, Fault> {
+        let word = self.word_at(place, F::EXPECTED)?;
+        match F::read(word) {
+            Some(figure) => Ok(figure),
+            None => Err(Fault::word(heap, self.number, F::EXPECTED, word)),
         }
     }
 
@@ -30,16 +61,19 @@ impl Line<'_> {
         heap: Global,
         list: &mut Vec<F>,
     ) -> Result<(), Fault> {
-        if self.rest.is_empty() {
-            return Err(Fault::end_of_line(self.number, F::EXPECTED));
-        }
-        for word in self.rest.iter() {
-            match F::read(*word) {
-                Some(figure) => list.push(figure)?,
-                None => return Err(Fault::word(heap, self.number, F::EXPECTED, *word)),
-            }
+        list.push(self.figure_at(heap, 0)?)?;
+        for place in 1..self.rest.len() {
+            list.push(self.figure_at(heap, place)?)?;
         }
         Ok(())
+    }
+
+    // There are no more than so many words after the head.
+    pub(crate) fn ends_after(&self, heap: Global, words: usize) -> Result<(), Fault> {
+        match self.rest.get(words) {
+            Some(more) => Err(Fault::word(heap, self.number, END_OF_LINE, *more)),
+            None => Ok(()),
+        }
     }
 }
 

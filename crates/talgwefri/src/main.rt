@@ -1,11 +1,16 @@
-// A pension-book program: it reads a list of service and a list of rates, weighs the one against the
-// other in the arithmetic that the input names, and prints a record of it.
+// A pension-book program: it reads a script of calls on a book, makes them in order, and prints a record
+// of what each call answered.
+mod books;
+mod command;
 mod fault;
 mod figure;
 mod input;
 mod lines;
+mod listed;
 mod record;
-mod task;
+mod script;
+mod stop;
+mod table;
 #[cfg(test)]
 mod tests;
 
@@ -18,7 +23,7 @@ struct Failed;
 
 fn run(rt: &LibcRuntime) -> Result<(), Fault> {
     let text = input::read(rt)?;
-    let record = task::carry_out(rt.alloc(), text.as_str())?;
+    let record = script::carry_out(rt.alloc(), text.as_str())?;
     rt.print(record)?;
     Ok(())
 }

@@ -1,82 +1,107 @@
-// The record of a weighing, for a person to read.
-use crate::task::Kind;
-use crate::task::KindDisplay;
-use crate::task::Lists;
-use sheet::Refusal;
+// The record of a script: a numbered line for each command, with what the call answered.
+use crate::books::Book;
+use crate::books::BookDisplay;
+use crate::command::Command;
+use crate::command::CommandDisplay;
+use crate::fault::Fault;
+use crate::fault::FaultFromAlloc;
+use crate::listed::Counted;
+use crate::listed::CountedDisplay;
+use crate::listed::Listed;
+use crate::listed::ListedDisplay;
+use crate::stop::SentBack;
+use crate::stop::SentBackDisplay;
+use crate::stop::Stop;
+use crate::stop::StopFromAlloc;
+use crate::stop::StopFromRefusal;
+use crate::table::Table;
+use crate::table::TableDisplay;
+use arithmetic::Arithmetic;
+use std::alloc::Global;
 use std::fmt;
 
-#[derive(Drop)]
-pub(crate) struct Record<'a, F> {
-    pub(crate) kind: Kind,
-    pub(crate) lists: &'a Lists<F>,
-    pub(crate) outcome: Result<F, Refusal>,
+// Opens a book in new arrays, in place of the one before.
+fn answer_open<F: Arithmetic>(
+    heap: Global,
+    book: &mut Book<F>,
+    order: usize,
+    capacity: usize,
+) -> Result<String, Stop> {
+    *book = Book::with_capacity(heap, capacity)?;
+    let sheets = Counted(book.open(order)?, "sheet", "sheets");
+    Ok(format!(heap, "{sheets}.")?)
 }
 
-// How many figures a list has.
-#[derive(Clone, Copy)]
-struct Length(usize);
-
-impl fmt::Display for Length as LengthDisplay {
-    fn fmt<W: fmt::Write>(&self, f: &mut fmt::Formatter<W>) -> fmt::Result {
-        match self.0 {
-            1 => write!(f, "1 figure"),
-            n => write!(f, "{n} figures"),
-        }
-    }
-}
-
-// A line for each figure of service with its rate, and for each figure that has no partner.
-fn write_pairs<F: fmt::Display, W: fmt::Write>(
-    lists: &Lists<F>,
-    f: &mut fmt::Formatter<W>,
-) -> fmt::Result {
-    let longer = lists.service.len().max(lists.rates.len());
-    if longer == 0 {
-        return writeln!(f, "  (both lists are empty)");
-    }
-    for i in 0..longer {
-        let number = i + 1;
-        match (lists.service.get(i), lists.rates.get(i)) {
-            (Some(service), Some(rate)) => {
-                writeln!(f, "  {number}. service {service}, rate {rate}")?
-            }
-            (Some(service), None) => writeln!(f, "  {number}. service {service}, no rate")?,
-            (None, Some(rate)) => writeln!(f, "  {number}. no service, rate {rate}")?,
-            (None, None) => {}
-        }
-    }
-    Ok(())
-}
-
-fn write_refusal<F, W: fmt::Write>(
-    lists: &Lists<F>,
-    refusal: Refusal,
-    f: &mut fmt::Formatter<W>,
-) -> fmt::Result {
-    let number = refusal.number();
-    let place = refusal.place();
-    let service = Length(lists.service.len());
-    let rates = Length(lists.rates.len());
-    writeln!(
-        f,
-        "Sent back, with no total: number {number}, place {place}."
-    )?;
-    writeln!(
-        f,
-        "Each figure of service needs one rate: service has {service}, rates has {rates}."
+// Where the off-diagonal cells of a row lie, with their columns and figures.
+fn answer_row<F: Arithmetic + fmt::Display>(
+    heap: Global,
+    book: &Book<F>,
+    sheet: usize,
+    row: usize,
+) -> Result<String, Stop> {
+    let (from, to) = book.row(sheet, row)?;
+    let columns = Listed(book.columns(sheet, row)?);
+    let figures = Listed(book.figures(sheet, row)?);
+    Ok(
+        format!(
+            heap,
+            "from {from} up to {to}; columns {columns}; figures {figures}."
+        )?,
     )
 }
 
-pub(crate) impl<F: fmt::Display> fmt::Display for Record<'_, F> as RecordDisplay {
-    fn fmt<W: fmt::Write>(&self, f: &mut fmt::Formatter<W>) -> fmt::Result {
-        let kind = self.kind;
-        let rule = kind.rule();
-        writeln!(f, "Service weighed against rates, in {kind}.")?;
-        writeln!(f, "The total is {rule}.")?;
-        write_pairs(self.lists, f)?;
-        match &self.outcome {
-            Ok(total) => writeln!(f, "Total: {total}"),
-            Err(refusal) => write_refusal(self.lists, *refusal, f),
+// Makes the call of a command, and gives its answer in words.
+fn answer<F: Arithmetic + fmt::Display>(
+    heap: Global,
+    book: &mut Book<F>,
+    command: &Command<F>,
+) -> Result<String, Stop> {
+    match command {
+        Command::Open { order, capacity } => answer_open(heap, book, *order, *capacity),
+        Command::Unit => Ok(format!(heap, "sheet {}.", book.unit()?)?),
+        Command::Load(entries) => Ok(format!(heap, "sheet {}.", book.load(entries)?)?),
+        Command::Strike => {
+            let sheets = Counted(book.strike()?, "sheet", "sheets");
+            Ok(format!(heap, "{sheets} left.")?)
         }
+        Command::Cell { sheet, row, column } => {
+            let figure = book.cell(*sheet, *row, *column)?;
+            Ok(format!(heap, "{figure}.")?)
+        }
+        Command::Row { sheet, row } => answer_row(heap, book, *sheet, *row),
+        Command::Weigh(lists) => Ok(format!(heap, "{}.", lists.weighed()?)?),
+        Command::Table { sheet } => Ok(Table::of(heap, book, *sheet)?.to_string(heap)?),
+        Command::Arrays => Ok(book.to_string(heap)?),
     }
+}
+
+// The line of a command, or the lines of a table and of arrays.
+fn line<F: Arithmetic + fmt::Display>(
+    heap: Global,
+    book: &mut Book<F>,
+    command: &Command<F>,
+    number: usize,
+) -> Result<String, Fault> {
+    match answer(heap, book, command) {
+        Ok(said) => Ok(format!(heap, "{number}. {command}: {said}\n")?),
+        Err(Stop::SentBack(refusal)) => {
+            let loading = matches!(command, Command::Load(_));
+            let why = SentBack { refusal, loading };
+            Ok(format!(heap, "{number}. {command}: {why}\n")?)
+        }
+        Err(Stop::Memory) => Err(Fault::Memory),
+    }
+}
+
+// Carries the commands out, one after the other, and answers the record of them.
+pub(crate) fn record<F: Arithmetic + fmt::Display>(
+    heap: Global,
+    commands: &[Command<F>],
+) -> Result<String, Fault> {
+    let mut book = Book::without_arrays(heap);
+    let mut text = String::new(heap);
+    for (i, command) in commands.iter().enumerate() {
+        text.push_str(line(heap, &mut book, command, i + 1)?.as_str())?;
+    }
+    Ok(text)
 }
