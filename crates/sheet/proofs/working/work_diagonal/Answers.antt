@@ -1,10 +1,9 @@
 use mathlib.Core.Path.{ap₂, _∙_}
-use Prim.Native.Nat.{ℕ, _<_}
+use Prim.Native.Nat.{_<_}
 use native.Mathlib.Omega.{arith}
 use lib.ListN.{length}
 use Rattle.std.proofs.shelf.Edits.{fill-by-more}
 use Rattle.arithmetic.specs.Semiring.{meanings}
-use Rattle.matrix.specs.Vectors.{figure-at}
 use Rattle.matrix.proofs.Meant.{read-means, meanings-set, length-meanings}
 use Rattle.sheet.proofs.working.work_diagonal.Needs as need
 

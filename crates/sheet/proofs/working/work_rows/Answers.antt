@@ -1,11 +1,9 @@
-use mathlib.Core.Path.{_≡_, sym, ap, _∙_}
-use Prim.Native.Nat.{ℕ}
+use mathlib.Core.Path.{_≡_, sym}
 use native.Mathlib.Omega.{arith}
 use Rattle.std.proofs.shelf.Counted.{fill-by-all}
 use Rattle.arithmetic.specs.Semiring.{meanings}
 use Rattle.matrix.specs.Vectors.{figure-at}
 use Rattle.matrix.proofs.Meant.{read-means, length-meanings}
-use Rattle.sheet.specs.Working.{off-cell}
 use Rattle.sheet.proofs.Scatters.{spread-none, spread-more, spread-all}
 use Rattle.sheet.proofs.working.work_rows.Needs as need
 
