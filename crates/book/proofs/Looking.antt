@@ -7,7 +7,8 @@ use lib.ListN.{getD}
 use Rattle.std.specs.declared.result.Result.the-variants.{Ok}
 use Rattle.arithmetic.specs.Semiring.{Figures, meanings}
 use Rattle.sheet.specs.Packed.{table}
-use Rattle.book.specs.Book.{Arrays, SoundBook, part, order-of, sheets-of, sheet-table}
+use Rattle.sheet.specs.Writing.{part}
+use Rattle.book.specs.Book.{Arrays, SoundBook, order-of, sheets-of, sheet-table}
 use Rattle.book.specs.Lines.{Granted, guard, missing, outside, outside-row}
 use Rattle.book.specs.Checked.{SheetLies}
 use Rattle.book.specs.Lookups.{row-from, row-to, row-lines, cell-lines, CellIs, RowIs, Between}

@@ -8,7 +8,8 @@ use Rattle.std.proofs.shelf.Lists.{length-take, length-drop}
 use Rattle.arithmetic.specs.Semiring.{Figures, meanings}
 use Rattle.sheet.specs.Packed.{Sound}
 use Rattle.sheet.proofs.Found.{sound-rises, row-within}
-use Rattle.book.specs.Book.{Arrays, SoundBook, part, order-of, sheets-of, capacity, start-of, last-end, sheet-index, sheet-figures}
+use Rattle.sheet.specs.Writing.{part}
+use Rattle.book.specs.Book.{Arrays, SoundBook, order-of, sheets-of, capacity, start-of, last-end, sheet-index, sheet-figures}
 use Rattle.book.specs.Lookups.{row-from, row-to}
 use Rattle.book.specs.Checked.{SheetLies}
 use Rattle.book.proofs.Starts.{lies, few, starts-rise}

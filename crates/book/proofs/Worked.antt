@@ -8,7 +8,8 @@ use Rattle.arithmetic.specs.Semiring.{Figures, meanings}
 use Rattle.matrix.specs.Tables.{Table}
 use Rattle.matrix.specs.Vectors.{Vector}
 use Rattle.sheet.specs.Packed.{table}
-use Rattle.book.specs.Book.{Arrays, part, order-of, sheet-table}
+use Rattle.sheet.specs.Writing.{part}
+use Rattle.book.specs.Book.{Arrays, order-of, sheet-table}
 use Rattle.book.specs.Lines.{Granted, guard, vector-lengths, missing}
 use Rattle.book.specs.Workings.{working-lines, Worked, WorkingFound}
 use Rattle.book.specs.Single.{WorkingIsSingle}

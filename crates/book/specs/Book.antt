@@ -5,6 +5,7 @@ use Prim.Native.Nat.{ℕ, _+_, _-_, _<_, _≤_}
 use lib.ListN.{length, getD, take, drop, set}
 use Rattle.arithmetic.specs.Semiring.{Figures, meanings}
 use Rattle.matrix.specs.Tables.{Table}
+use Rattle.sheet.specs.Writing.{part}
 use Rattle.sheet.specs.Packed.{Rule, table, packed-length, packed-index, packed-figures}
 use Rattle.book.specs.Limits.{header-words, most-sheets, largest-order, largest-capacity}
 
@@ -13,10 +14,6 @@ pub record Arrays (S : Type 0) : Type 0 where
   pub header : List ℕ
   pub index : List ℕ
   pub figures : List S
-
--- the places from `from` up to `to`
-abbrev pub part : {A : Type 0} → List A → ℕ → ℕ → List A
-part xs from to = take (to - from) (drop from xs)
 
 -- what word w of a header has to keep, over arrays of this capacity; each rule reads earlier words only
 pub record HeaderRule (header : List ℕ) (capacity w : ℕ) : Type 0 where

@@ -8,7 +8,8 @@ use Rattle.std.specs.declared.result.Result.{Result}
 use Rattle.std.specs.declared.result.Result.the-variants.{Ok, Err}
 use Rattle.arithmetic.specs.Semiring.{Figures}
 use Rattle.sheet.specs.declared.refusal.Refusal.{Refusal}
-use Rattle.book.specs.Book.{Arrays, part, start-of, sheet-index, sheet-table}
+use Rattle.sheet.specs.Writing.{part}
+use Rattle.book.specs.Book.{Arrays, start-of, sheet-index, sheet-table}
 use Rattle.book.specs.Lines.{Line, Granted, SentBack, guard, missing, outside, outside-row}
 
 module _ {S : Type 0} (b : Arrays S) where
