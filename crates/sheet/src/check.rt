@@ -29,8 +29,8 @@ fn cell_keeps<F: Arithmetic>(
     row: usize,
     p: usize,
 ) -> bool
-    requires order_lt_p { (order < p) × ((p < length words.now) × ((length figures.now ≡ length words.now) × (Rising order words.now))) }
-    requires row_lt_order { (row < order) × ((slice_index words.now row ≤ p) × (p < slice_index words.now (row + 1))) }
+    requires sizes { (order < p) × ((p < length words.now) × ((length figures.now ≡ length words.now) × (Rising order words.now))) }
+    requires in_row { (row < order) × ((slice_index words.now row ≤ p) × (p < slice_index words.now (row + 1))) }
     ensures { Decides result (Rule F.Arithmetic.figures.ring order words.now (meanings F.Arithmetic.figures figures.now) p) }
 {
     let word = words[p] as usize;

@@ -17,11 +17,11 @@ returns g c =
           column_below = omega arith;
           off = omega arith;
           rises = search rules;
-          figure = λ z. both_ways _ (not-true _ t) (c.is-zero.ensures ∙ (a.ring.tests_zero _).1 (read ∙ z));
+          figure = λ z. both_ways _ (not-true _ t) (c.is_zero.ensures ∙ (a.ring.tests_zero _).1 (read ∙ z));
         };
       },
       λ rule. ⊎_elim
-          (λ t. absurd ((rule.cell (omega arith)).figure (sym read ∙ (a.ring.tests_zero _).0 (sym c.is-zero.ensures ∙ t))))
+          (λ t. absurd ((rule.cell (omega arith)).figure (sym read ∙ (a.ring.tests_zero _).0 (sym c.is_zero.ensures ∙ t))))
           (λ f. not_from_false _ f)
-          (cases_Bool c.is-zero.result),
+          (cases_Bool c.is_zero.result),
     )

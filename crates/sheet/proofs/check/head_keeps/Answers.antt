@@ -11,7 +11,7 @@ returns-then-word-words-3 g c =
         rises = search rules;
         within = omega arith;
         last = omega arith;
-        spare = λ e. sym read ∙ (a.ring.tests_zero _).0 (sym c.is-zero.ensures ∙ t);
+        spare = λ e. sym read ∙ (a.ring.tests_zero _).0 (sym c.is_zero.ensures ∙ t);
       },
-      λ h. c.is-zero.ensures ∙ (a.ring.tests_zero _).1 (read ∙ h.spare (omega arith)),
+      λ h. c.is_zero.ensures ∙ (a.ring.tests_zero _).1 (read ∙ h.spare (omega arith)),
     )

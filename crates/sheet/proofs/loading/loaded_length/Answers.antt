@@ -5,8 +5,8 @@ use Rattle.sheet.proofs.loading.loaded_length.Goals as goal
 pub loop-k-init : goal.loop-k-init
 loop-k-init g c = counted_none g.F.Arithmetic.figures _ _ _ _ (omega arith) (omega arith) c.requires.placed (omega arith)
 
-pub overflow-add-length-in-loop-k : goal.overflow-add-length-in-loop-k
-overflow-add-length-in-loop-k g c =
+pub overflow_add-length-in-loop-k : goal.overflow_add-length-in-loop-k
+overflow_add-length-in-loop-k g c =
     let small = counted_small g.F.Arithmetic.figures _ _ _ _ (omega arith) (omega arith) c.requires.placed (omega arith) _ _ c.loop-k.invariant in
     omega (arith, c.places-length.ensures.small)
 

@@ -1,4 +1,4 @@
 use Rattle.spelling.proofs.AmountFigure.read.Goals as goal
 
-pub returns-in-err-whole-number : goal.returns-in-err-whole-number
-returns-in-err-whole-number c = rw c.from-residual.ensures (λ a s. c.in-err-whole-number.ensures s.0 s.1)
+pub returns-in_err-whole_number : goal.returns-in_err-whole_number
+returns-in_err-whole_number c = rw c.from_residual.ensures (λ a s. c.in_err-whole_number.ensures s.0 s.1)
