@@ -6,7 +6,7 @@ use Rattle.sum.proofs.added_length.Given as goal
 abbrev pub invariant-loop-row : goal.invariant-loop-row
 invariant-loop-row g l =
     let a = g.F.Arithmetic.figures in
-    Measured a.ring l.order l.first (meanings a l.first-figures) l.second (meanings a l.second-figures) l.row l.from l.p l.q l.length
+    Measured a.ring l.order l.first (meanings a l.first_figures) l.second (meanings a l.second_figures) l.row l.from l.p l.q l.length
     × Bounded l.order l.first l.p × Bounded l.order l.second l.q
 
 abbrev pub decreases-loop-row : goal.decreases-loop-row

@@ -7,5 +7,5 @@ pub returns : goal.returns
 returns g c =
     let a = g.F.Arithmetic.figures in
     c.add.ensures ∙ ap₂ a.ring.add
-    (read_means a (part c.args.figures.now c.args.first c.args.first-end) c.args.x _ a.ring.zero c.requires.places.0 c.index-one-x.is)
-    (read_means a (part c.args.figures.now c.args.second c.args.second-end) c.args.y _ a.ring.zero c.requires.places.1 c.index-two-y.is)
+    (read_means a (part c.args.figures.now c.args.first c.args.first_end) c.args.x _ a.ring.zero c.requires.places.0 c.index-one-x.is)
+    (read_means a (part c.args.figures.now c.args.second c.args.second_end) c.args.y _ a.ring.zero c.requires.places.1 c.index-two-y.is)

@@ -6,8 +6,8 @@ use Rattle.transpose.proofs.count_columns.Goals as goal
 pub loop-q-init : goal.loop-q-init
 loop-q-init c = (refl, λ k low. let none : (c.args.order + 1) - (c.args.order + 1) ≡ 0 = omega arith in rw none (get_or-replicate 1024 k 0 0 low))
 
-pub overflow-add-counts : goal.overflow-add-counts
-overflow-add-counts c =
+pub overflow_add-counts : goal.overflow_add-counts
+overflow_add-counts c =
     let column = get_or c.args.words.now c.loop-q.q 0 in
     let low : column < 1024 = c.requires.columns c.loop-q.q (omega arith) (omega arith) in
     let is = c.loop-q.invariant.1 column low in

@@ -10,8 +10,8 @@ use Rattle.transpose.proofs.Walks.{flipped_at, words_kept, figures_kept, table_k
 use Rattle.transpose.proofs.write_flipped.Given as given
 use Rattle.transpose.proofs.write_flipped.Goals as goal
 
-pub count-columns-next-requires : goal.count-columns-next-requires
-count-columns-next-requires g c =
+pub count_columns-next-requires : goal.count_columns-next-requires
+count_columns-next-requires g c =
     let a = g.F.Arithmetic.figures in
     let sizes = c.requires.sizes in
     let ends = c.requires.ends in
@@ -23,8 +23,8 @@ count-columns-next-requires g c =
       columns = λ q past low. let below = ((sound₀.rules q low).cell past).column_below in omega arith;
     }
 
-pub write-head-requires : goal.write-head-requires
-write-head-requires g c =
+pub write_head-requires : goal.write_head-requires
+write_head-requires g c =
     let a = g.F.Arithmetic.figures in
     let sizes = c.requires.sizes in
     let ends = c.requires.ends in
@@ -34,8 +34,8 @@ write-head-requires g c =
     record {
       sound = sound₀;
       ends = ends;
-      sizes = (sizes.0, (sizes.1.0, (sizes.1.1, c.count-columns-next.ensures.long)));
-      counts = λ k low. c.count-columns-next.ensures.counts k (omega arith) ∙ hits_all a.ring c.args.order _ _ sound₀ k;
+      sizes = (sizes.0, (sizes.1.0, (sizes.1.1, c.count_columns-next.ensures.long)));
+      counts = λ k low. c.count_columns-next.ensures.counts k (omega arith) ∙ hits_all a.ring c.args.order _ _ sound₀ k;
     }
 
 pub loop-q-init : goal.loop-q-init
@@ -46,28 +46,28 @@ loop-q-init g c =
     let sound₀ = c.requires.sound in
     let some = sound₀.room in
     let size : length (part c.args.index.now c.args.start c.args.end) ≡ c.args.end - c.args.start = part_length c.args.index.now c.args.start c.args.end (omega arith) in
-    let ws = c.write-head.new.index in
-    let fs = c.write-head.new.figures in
-    let laid = c.write-head.ensures.head in
+    let ws = c.write_head.new.index in
+    let fs = c.write_head.new.figures in
+    let laid = c.write_head.ensures.head in
     let words = laid.words_long in
     let figs = laid.figures_long in
     let we = words_kept a c.args.order (flipped_at a c.args.start c.args.end c.args.index.now c.args.figures.now) c.args.base c.args.index.now c.args.figures.now ws fs laid c.args.start c.args.end (omega arith) (omega arith) (omega arith) in
     let fe = figures_kept a c.args.order (flipped_at a c.args.start c.args.end c.args.index.now c.args.figures.now) c.args.base c.args.index.now c.args.figures.now ws fs laid c.args.start c.args.end (omega arith) (omega arith) (omega arith) in
     let sound : Sound a.ring c.args.order (part ws c.args.start c.args.end) (meanings a (part fs c.args.start c.args.end)) = rw (we, fe) sound₀ in
     let same = table_kept a c.args.order (flipped_at a c.args.start c.args.end c.args.index.now c.args.figures.now) c.args.base c.args.index.now c.args.figures.now ws fs laid c.args.start c.args.end (omega arith) (omega arith) (omega arith) in
-    walking_none a c.args.order c.args.start c.args.end c.args.base ws fs sound (omega arith) (omega arith) (omega arith) (omega arith) (omega arith) c.write-head.new.next (head_self a c.args.order _ _ c.args.base c.args.index.now c.args.figures.now ws fs laid (sym same)) c.write-head.ensures.long (subst (λ u. (k : ℕ) → k < c.args.order → get_or c.write-head.new.next k 0 ≡ row_start a.ring c.args.order u k) (sym same) c.write-head.ensures.starts)
+    walking_none a c.args.order c.args.start c.args.end c.args.base ws fs sound (omega arith) (omega arith) (omega arith) (omega arith) (omega arith) c.write_head.new.next (head_self a c.args.order _ _ c.args.base c.args.index.now c.args.figures.now ws fs laid (sym same)) c.write_head.ensures.long (subst (λ u. (k : ℕ) → k < c.args.order → get_or c.write_head.new.next k 0 ≡ row_start a.ring c.args.order u k) (sym same) c.write_head.ensures.starts)
 
-pub overflow-add-row : goal.overflow-add-row
-overflow-add-row g c =
+pub overflow_add-row : goal.overflow_add-row
+overflow_add-row g c =
     let a = g.F.Arithmetic.figures in
     let sizes = c.requires.sizes in
     let ends = c.requires.ends in
     let sound₀ = c.requires.sound in
     let some = sound₀.room in
     let size : length (part c.args.index.now c.args.start c.args.end) ≡ c.args.end - c.args.start = part_length c.args.index.now c.args.start c.args.end (omega arith) in
-    let ws = c.write-head.new.index in
-    let fs = c.write-head.new.figures in
-    let laid = c.write-head.ensures.head in
+    let ws = c.write_head.new.index in
+    let fs = c.write_head.new.figures in
+    let laid = c.write_head.ensures.head in
     let words = laid.words_long in
     let figs = laid.figures_long in
     let we = words_kept a c.args.order (flipped_at a c.args.start c.args.end c.args.index.now c.args.figures.now) c.args.base c.args.index.now c.args.figures.now ws fs laid c.args.start c.args.end (omega arith) (omega arith) (omega arith) in
@@ -79,17 +79,17 @@ overflow-add-row g c =
     let past = c.loop-q.invariant.past in
     omega arith
 
-pub overflow-add-start : goal.overflow-add-start
-overflow-add-start g c =
+pub overflow_add-start : goal.overflow_add-start
+overflow_add-start g c =
     let a = g.F.Arithmetic.figures in
     let sizes = c.requires.sizes in
     let ends = c.requires.ends in
     let sound₀ = c.requires.sound in
     let some = sound₀.room in
     let size : length (part c.args.index.now c.args.start c.args.end) ≡ c.args.end - c.args.start = part_length c.args.index.now c.args.start c.args.end (omega arith) in
-    let ws = c.write-head.new.index in
-    let fs = c.write-head.new.figures in
-    let laid = c.write-head.ensures.head in
+    let ws = c.write_head.new.index in
+    let fs = c.write_head.new.figures in
+    let laid = c.write_head.ensures.head in
     let words = laid.words_long in
     let figs = laid.figures_long in
     let we = words_kept a c.args.order (flipped_at a c.args.start c.args.end c.args.index.now c.args.figures.now) c.args.base c.args.index.now c.args.figures.now ws fs laid c.args.start c.args.end (omega arith) (omega arith) (omega arith) in
@@ -109,9 +109,9 @@ bounds-index-start g c =
     let sound₀ = c.requires.sound in
     let some = sound₀.room in
     let size : length (part c.args.index.now c.args.start c.args.end) ≡ c.args.end - c.args.start = part_length c.args.index.now c.args.start c.args.end (omega arith) in
-    let ws = c.write-head.new.index in
-    let fs = c.write-head.new.figures in
-    let laid = c.write-head.ensures.head in
+    let ws = c.write_head.new.index in
+    let fs = c.write_head.new.figures in
+    let laid = c.write_head.ensures.head in
     let words = laid.words_long in
     let figs = laid.figures_long in
     let we = words_kept a c.args.order (flipped_at a c.args.start c.args.end c.args.index.now c.args.figures.now) c.args.base c.args.index.now c.args.figures.now ws fs laid c.args.start c.args.end (omega arith) (omega arith) (omega arith) in
@@ -123,17 +123,17 @@ bounds-index-start g c =
     let past = c.loop-q.invariant.past in
     omega arith
 
-pub overflow-add-row-then-index-start : goal.overflow-add-row-then-index-start
-overflow-add-row-then-index-start g c =
+pub overflow_add-row-then-index-start : goal.overflow_add-row-then-index-start
+overflow_add-row-then-index-start g c =
     let a = g.F.Arithmetic.figures in
     let sizes = c.requires.sizes in
     let ends = c.requires.ends in
     let sound₀ = c.requires.sound in
     let some = sound₀.room in
     let size : length (part c.args.index.now c.args.start c.args.end) ≡ c.args.end - c.args.start = part_length c.args.index.now c.args.start c.args.end (omega arith) in
-    let ws = c.write-head.new.index in
-    let fs = c.write-head.new.figures in
-    let laid = c.write-head.ensures.head in
+    let ws = c.write_head.new.index in
+    let fs = c.write_head.new.figures in
+    let laid = c.write_head.ensures.head in
     let words = laid.words_long in
     let figs = laid.figures_long in
     let we = words_kept a c.args.order (flipped_at a c.args.start c.args.end c.args.index.now c.args.figures.now) c.args.base c.args.index.now c.args.figures.now ws fs laid c.args.start c.args.end (omega arith) (omega arith) (omega arith) in
@@ -145,17 +145,17 @@ overflow-add-row-then-index-start g c =
     let past = c.loop-q.invariant.past in
     omega arith
 
-pub offset-bounds-index-start-in-loop-q : goal.offset-bounds-index-start-in-loop-q
-offset-bounds-index-start-in-loop-q g c =
+pub offset_bounds-index-start-in-loop-q : goal.offset_bounds-index-start-in-loop-q
+offset_bounds-index-start-in-loop-q g c =
     let a = g.F.Arithmetic.figures in
     let sizes = c.requires.sizes in
     let ends = c.requires.ends in
     let sound₀ = c.requires.sound in
     let some = sound₀.room in
     let size : length (part c.args.index.now c.args.start c.args.end) ≡ c.args.end - c.args.start = part_length c.args.index.now c.args.start c.args.end (omega arith) in
-    let ws = c.write-head.new.index in
-    let fs = c.write-head.new.figures in
-    let laid = c.write-head.ensures.head in
+    let ws = c.write_head.new.index in
+    let fs = c.write_head.new.figures in
+    let laid = c.write_head.ensures.head in
     let words = laid.words_long in
     let figs = laid.figures_long in
     let we = words_kept a c.args.order (flipped_at a c.args.start c.args.end c.args.index.now c.args.figures.now) c.args.base c.args.index.now c.args.figures.now ws fs laid c.args.start c.args.end (omega arith) (omega arith) (omega arith) in
@@ -175,9 +175,9 @@ loop-q-smaller-then-index-start g c =
     let sound₀ = c.requires.sound in
     let some = sound₀.room in
     let size : length (part c.args.index.now c.args.start c.args.end) ≡ c.args.end - c.args.start = part_length c.args.index.now c.args.start c.args.end (omega arith) in
-    let ws = c.write-head.new.index in
-    let fs = c.write-head.new.figures in
-    let laid = c.write-head.ensures.head in
+    let ws = c.write_head.new.index in
+    let fs = c.write_head.new.figures in
+    let laid = c.write_head.ensures.head in
     let words = laid.words_long in
     let figs = laid.figures_long in
     let we = words_kept a c.args.order (flipped_at a c.args.start c.args.end c.args.index.now c.args.figures.now) c.args.base c.args.index.now c.args.figures.now ws fs laid c.args.start c.args.end (omega arith) (omega arith) (omega arith) in
@@ -197,9 +197,9 @@ loop-q-preserved-then-index-start g c =
     let sound₀ = c.requires.sound in
     let some = sound₀.room in
     let size : length (part c.args.index.now c.args.start c.args.end) ≡ c.args.end - c.args.start = part_length c.args.index.now c.args.start c.args.end (omega arith) in
-    let ws = c.write-head.new.index in
-    let fs = c.write-head.new.figures in
-    let laid = c.write-head.ensures.head in
+    let ws = c.write_head.new.index in
+    let fs = c.write_head.new.figures in
+    let laid = c.write_head.ensures.head in
     let words = laid.words_long in
     let figs = laid.figures_long in
     let we = words_kept a c.args.order (flipped_at a c.args.start c.args.end c.args.index.now c.args.figures.now) c.args.base c.args.index.now c.args.figures.now ws fs laid c.args.start c.args.end (omega arith) (omega arith) (omega arith) in
@@ -219,9 +219,9 @@ bounds-next-column g c =
     let sound₀ = c.requires.sound in
     let some = sound₀.room in
     let size : length (part c.args.index.now c.args.start c.args.end) ≡ c.args.end - c.args.start = part_length c.args.index.now c.args.start c.args.end (omega arith) in
-    let ws = c.write-head.new.index in
-    let fs = c.write-head.new.figures in
-    let laid = c.write-head.ensures.head in
+    let ws = c.write_head.new.index in
+    let fs = c.write_head.new.figures in
+    let laid = c.write_head.ensures.head in
     let words = laid.words_long in
     let figs = laid.figures_long in
     let we = words_kept a c.args.order (flipped_at a c.args.start c.args.end c.args.index.now c.args.figures.now) c.args.base c.args.index.now c.args.figures.now ws fs laid c.args.start c.args.end (omega arith) (omega arith) (omega arith) in
@@ -233,17 +233,17 @@ bounds-next-column g c =
     let past = c.loop-q.invariant.past in
     next_room a c.args.order c.args.start c.args.end c.args.base ws fs sound (omega arith) (omega arith) (omega arith) (omega arith) (omega arith) c.loop-q.row c.loop-q.q c.loop-q.index c.loop-q.figures c.loop-q.next c.loop-q.invariant (omega arith) (omega arith) (get_or c.loop-q.index (c.args.start + c.loop-q.q) 0) refl
 
-pub overflow-cast-index-else-index-start : goal.overflow-cast-index-else-index-start
-overflow-cast-index-else-index-start g c =
+pub overflow_cast-index-else-index-start : goal.overflow_cast-index-else-index-start
+overflow_cast-index-else-index-start g c =
     let a = g.F.Arithmetic.figures in
     let sizes = c.requires.sizes in
     let ends = c.requires.ends in
     let sound₀ = c.requires.sound in
     let some = sound₀.room in
     let size : length (part c.args.index.now c.args.start c.args.end) ≡ c.args.end - c.args.start = part_length c.args.index.now c.args.start c.args.end (omega arith) in
-    let ws = c.write-head.new.index in
-    let fs = c.write-head.new.figures in
-    let laid = c.write-head.ensures.head in
+    let ws = c.write_head.new.index in
+    let fs = c.write_head.new.figures in
+    let laid = c.write_head.ensures.head in
     let words = laid.words_long in
     let figs = laid.figures_long in
     let we = words_kept a c.args.order (flipped_at a c.args.start c.args.end c.args.index.now c.args.figures.now) c.args.base c.args.index.now c.args.figures.now ws fs laid c.args.start c.args.end (omega arith) (omega arith) (omega arith) in
@@ -263,9 +263,9 @@ bounds-index-base g c =
     let sound₀ = c.requires.sound in
     let some = sound₀.room in
     let size : length (part c.args.index.now c.args.start c.args.end) ≡ c.args.end - c.args.start = part_length c.args.index.now c.args.start c.args.end (omega arith) in
-    let ws = c.write-head.new.index in
-    let fs = c.write-head.new.figures in
-    let laid = c.write-head.ensures.head in
+    let ws = c.write_head.new.index in
+    let fs = c.write_head.new.figures in
+    let laid = c.write_head.ensures.head in
     let words = laid.words_long in
     let figs = laid.figures_long in
     let we = words_kept a c.args.order (flipped_at a c.args.start c.args.end c.args.index.now c.args.figures.now) c.args.base c.args.index.now c.args.figures.now ws fs laid c.args.start c.args.end (omega arith) (omega arith) (omega arith) in
@@ -285,9 +285,9 @@ figure_place g c =
     let sound₀ = c.requires.sound in
     let some = sound₀.room in
     let size : length (part c.args.index.now c.args.start c.args.end) ≡ c.args.end - c.args.start = part_length c.args.index.now c.args.start c.args.end (omega arith) in
-    let ws = c.write-head.new.index in
-    let fs = c.write-head.new.figures in
-    let laid = c.write-head.ensures.head in
+    let ws = c.write_head.new.index in
+    let fs = c.write_head.new.figures in
+    let laid = c.write_head.ensures.head in
     let words = laid.words_long in
     let figs = laid.figures_long in
     let we = words_kept a c.args.order (flipped_at a c.args.start c.args.end c.args.index.now c.args.figures.now) c.args.base c.args.index.now c.args.figures.now ws fs laid c.args.start c.args.end (omega arith) (omega arith) (omega arith) in
@@ -299,8 +299,8 @@ figure_place g c =
     let past = c.loop-q.invariant.past in
     subst (λ x. c.args.base + get_or c.loop-q.next (get_or c.loop-q.index (c.args.start + c.loop-q.q) 0) 0 < x) (now' ∙ figs) (figure_room a c.args.order c.args.start c.args.end c.args.base ws fs sound (omega arith) (omega arith) (omega arith) (omega arith) (omega arith) c.loop-q.row c.loop-q.q c.loop-q.index c.loop-q.figures c.loop-q.next c.loop-q.invariant (omega arith) (omega arith) (get_or c.loop-q.index (c.args.start + c.loop-q.q) 0) refl)
 
-pub offset-bounds-figures-base : goal.offset-bounds-figures-base
-offset-bounds-figures-base g c = let low : c.args.base + get_or c.loop-q.next (get_or c.loop-q.index (c.args.start + c.loop-q.q) 0) 0 < length c.args.figures.now = figure_place g c in search rules
+pub offset_bounds-figures-base : goal.offset_bounds-figures-base
+offset_bounds-figures-base g c = let low : c.args.base + get_or c.loop-q.next (get_or c.loop-q.index (c.args.start + c.loop-q.q) 0) 0 < length c.args.figures.now = figure_place g c in search rules
 
 pub bounds-figures-base : goal.bounds-figures-base
 bounds-figures-base g c =
@@ -310,9 +310,9 @@ bounds-figures-base g c =
     let sound₀ = c.requires.sound in
     let some = sound₀.room in
     let size : length (part c.args.index.now c.args.start c.args.end) ≡ c.args.end - c.args.start = part_length c.args.index.now c.args.start c.args.end (omega arith) in
-    let ws = c.write-head.new.index in
-    let fs = c.write-head.new.figures in
-    let laid = c.write-head.ensures.head in
+    let ws = c.write_head.new.index in
+    let fs = c.write_head.new.figures in
+    let laid = c.write_head.ensures.head in
     let words = laid.words_long in
     let figs = laid.figures_long in
     let we = words_kept a c.args.order (flipped_at a c.args.start c.args.end c.args.index.now c.args.figures.now) c.args.base c.args.index.now c.args.figures.now ws fs laid c.args.start c.args.end (omega arith) (omega arith) (omega arith) in
@@ -324,17 +324,17 @@ bounds-figures-base g c =
     let past = c.loop-q.invariant.past in
     figure_room a c.args.order c.args.start c.args.end c.args.base ws fs sound (omega arith) (omega arith) (omega arith) (omega arith) (omega arith) c.loop-q.row c.loop-q.q c.loop-q.index c.loop-q.figures c.loop-q.next c.loop-q.invariant (omega arith) (omega arith) (get_or c.loop-q.index (c.args.start + c.loop-q.q) 0) refl
 
-pub overflow-cast-next : goal.overflow-cast-next
-overflow-cast-next g c =
+pub overflow_cast-next : goal.overflow_cast-next
+overflow_cast-next g c =
     let a = g.F.Arithmetic.figures in
     let sizes = c.requires.sizes in
     let ends = c.requires.ends in
     let sound₀ = c.requires.sound in
     let some = sound₀.room in
     let size : length (part c.args.index.now c.args.start c.args.end) ≡ c.args.end - c.args.start = part_length c.args.index.now c.args.start c.args.end (omega arith) in
-    let ws = c.write-head.new.index in
-    let fs = c.write-head.new.figures in
-    let laid = c.write-head.ensures.head in
+    let ws = c.write_head.new.index in
+    let fs = c.write_head.new.figures in
+    let laid = c.write_head.ensures.head in
     let words = laid.words_long in
     let figs = laid.figures_long in
     let we = words_kept a c.args.order (flipped_at a c.args.start c.args.end c.args.index.now c.args.figures.now) c.args.base c.args.index.now c.args.figures.now ws fs laid c.args.start c.args.end (omega arith) (omega arith) (omega arith) in
@@ -354,9 +354,9 @@ bounds-next-column-else-index-start g c =
     let sound₀ = c.requires.sound in
     let some = sound₀.room in
     let size : length (part c.args.index.now c.args.start c.args.end) ≡ c.args.end - c.args.start = part_length c.args.index.now c.args.start c.args.end (omega arith) in
-    let ws = c.write-head.new.index in
-    let fs = c.write-head.new.figures in
-    let laid = c.write-head.ensures.head in
+    let ws = c.write_head.new.index in
+    let fs = c.write_head.new.figures in
+    let laid = c.write_head.ensures.head in
     let words = laid.words_long in
     let figs = laid.figures_long in
     let we = words_kept a c.args.order (flipped_at a c.args.start c.args.end c.args.index.now c.args.figures.now) c.args.base c.args.index.now c.args.figures.now ws fs laid c.args.start c.args.end (omega arith) (omega arith) (omega arith) in
@@ -376,9 +376,9 @@ loop-q-smaller g c =
     let sound₀ = c.requires.sound in
     let some = sound₀.room in
     let size : length (part c.args.index.now c.args.start c.args.end) ≡ c.args.end - c.args.start = part_length c.args.index.now c.args.start c.args.end (omega arith) in
-    let ws = c.write-head.new.index in
-    let fs = c.write-head.new.figures in
-    let laid = c.write-head.ensures.head in
+    let ws = c.write_head.new.index in
+    let fs = c.write_head.new.figures in
+    let laid = c.write_head.ensures.head in
     let words = laid.words_long in
     let figs = laid.figures_long in
     let we = words_kept a c.args.order (flipped_at a c.args.start c.args.end c.args.index.now c.args.figures.now) c.args.base c.args.index.now c.args.figures.now ws fs laid c.args.start c.args.end (omega arith) (omega arith) (omega arith) in
@@ -398,9 +398,9 @@ loop-q-preserved g c =
     let sound₀ = c.requires.sound in
     let some = sound₀.room in
     let size : length (part c.args.index.now c.args.start c.args.end) ≡ c.args.end - c.args.start = part_length c.args.index.now c.args.start c.args.end (omega arith) in
-    let ws = c.write-head.new.index in
-    let fs = c.write-head.new.figures in
-    let laid = c.write-head.ensures.head in
+    let ws = c.write_head.new.index in
+    let fs = c.write_head.new.figures in
+    let laid = c.write_head.ensures.head in
     let words = laid.words_long in
     let figs = laid.figures_long in
     let we = words_kept a c.args.order (flipped_at a c.args.start c.args.end c.args.index.now c.args.figures.now) c.args.base c.args.index.now c.args.figures.now ws fs laid c.args.start c.args.end (omega arith) (omega arith) (omega arith) in
@@ -420,9 +420,9 @@ returns g c =
     let sound₀ = c.requires.sound in
     let some = sound₀.room in
     let size : length (part c.args.index.now c.args.start c.args.end) ≡ c.args.end - c.args.start = part_length c.args.index.now c.args.start c.args.end (omega arith) in
-    let ws = c.write-head.new.index in
-    let fs = c.write-head.new.figures in
-    let laid = c.write-head.ensures.head in
+    let ws = c.write_head.new.index in
+    let fs = c.write_head.new.figures in
+    let laid = c.write_head.ensures.head in
     let words = laid.words_long in
     let figs = laid.figures_long in
     let we = words_kept a c.args.order (flipped_at a c.args.start c.args.end c.args.index.now c.args.figures.now) c.args.base c.args.index.now c.args.figures.now ws fs laid c.args.start c.args.end (omega arith) (omega arith) (omega arith) in

@@ -21,8 +21,8 @@ loop-row-init g c =
     let size : length (part c.args.index.now c.args.start c.args.end) ≡ c.args.end - c.args.start = simp (length-take, length-drop) (omega arith) in
     heading_none a c.args.order (omega arith) t c.args.base c.args.index.now c.args.figures.now (omega arith) (omega arith) c.args.next.now sizes.1.1.1 c.requires.counts
 
-pub overflow-cast-index : goal.overflow-cast-index
-overflow-cast-index g c =
+pub overflow_cast-index : goal.overflow_cast-index
+overflow_cast-index g c =
     let a = g.F.Arithmetic.figures in
     let sizes = c.requires.sizes in
     let t = flipped (table a.ring (part c.args.index.now c.args.start c.args.end) (meanings a (part c.args.figures.now c.args.start c.args.end))) in
@@ -51,8 +51,8 @@ bounds-index-base g c =
     let within = start_within a c.args.order (omega arith) t c.args.base c.args.index.now c.args.figures.now (omega arith) (omega arith) c.loop-row.row c.loop-row.index c.loop-row.figures c.loop-row.next c.loop-row.at c.loop-row.invariant (omega arith) in
     omega arith
 
-pub offset-bounds-figures-start : goal.offset-bounds-figures-start
-offset-bounds-figures-start g c =
+pub offset_bounds-figures-start : goal.offset_bounds-figures-start
+offset_bounds-figures-start g c =
     let a = g.F.Arithmetic.figures in
     let sizes = c.requires.sizes in
     let t = flipped (table a.ring (part c.args.index.now c.args.start c.args.end) (meanings a (part c.args.figures.now c.args.start c.args.end))) in
@@ -82,8 +82,8 @@ bounds-figures-start g c =
     let within = start_within a c.args.order (omega arith) t c.args.base c.args.index.now c.args.figures.now (omega arith) (omega arith) c.loop-row.row c.loop-row.index c.loop-row.figures c.loop-row.next c.loop-row.at c.loop-row.invariant (omega arith) in
     omega arith
 
-pub offset-bounds-figures-base : goal.offset-bounds-figures-base
-offset-bounds-figures-base g c =
+pub offset_bounds-figures-base : goal.offset_bounds-figures-base
+offset_bounds-figures-base g c =
     let a = g.F.Arithmetic.figures in
     let sizes = c.requires.sizes in
     let t = flipped (table a.ring (part c.args.index.now c.args.start c.args.end) (meanings a (part c.args.figures.now c.args.start c.args.end))) in
@@ -113,8 +113,8 @@ bounds-figures-base g c =
     let within = start_within a c.args.order (omega arith) t c.args.base c.args.index.now c.args.figures.now (omega arith) (omega arith) c.loop-row.row c.loop-row.index c.loop-row.figures c.loop-row.next c.loop-row.at c.loop-row.invariant (omega arith) in
     omega arith
 
-pub overflow-cast-next : goal.overflow-cast-next
-overflow-cast-next g c =
+pub overflow_cast-next : goal.overflow_cast-next
+overflow_cast-next g c =
     let a = g.F.Arithmetic.figures in
     let sizes = c.requires.sizes in
     let t = flipped (table a.ring (part c.args.index.now c.args.start c.args.end) (meanings a (part c.args.figures.now c.args.start c.args.end))) in
@@ -128,8 +128,8 @@ overflow-cast-next g c =
     let within = start_within a c.args.order (omega arith) t c.args.base c.args.index.now c.args.figures.now (omega arith) (omega arith) c.loop-row.row c.loop-row.index c.loop-row.figures c.loop-row.next c.loop-row.at c.loop-row.invariant (omega arith) in
     omega arith
 
-pub overflow-add-at-in-loop-row : goal.overflow-add-at-in-loop-row
-overflow-add-at-in-loop-row g c =
+pub overflow_add-at-in-loop-row : goal.overflow_add-at-in-loop-row
+overflow_add-at-in-loop-row g c =
     let a = g.F.Arithmetic.figures in
     let sizes = c.requires.sizes in
     let t = flipped (table a.ring (part c.args.index.now c.args.start c.args.end) (meanings a (part c.args.figures.now c.args.start c.args.end))) in
@@ -162,8 +162,8 @@ loop-row-preserved g c =
     let y = read_part a c.args.figures.now c.loop-row.figures c.args.start c.args.end c.loop-row.row c.index-figures-start.result c.index-figures-start.is (inv.figures_stay (c.args.start + c.loop-row.row) c.index-figures-start.result (inl (omega arith))) (omega arith) (omega arith) in
     heading_more a c.args.order (omega arith) t c.args.base c.args.index.now c.args.figures.now (omega arith) (omega arith) c.loop-row.row c.loop-row.index c.loop-row.figures c.loop-row.next c.loop-row.at c.loop-row.invariant (omega arith) c.index-figures-start.result (y ∙ sym (table_here a.ring (part c.args.index.now c.args.start c.args.end) (meanings a (part c.args.figures.now c.args.start c.args.end)) c.loop-row.row)) _ refl
 
-pub overflow-cast-index-2 : goal.overflow-cast-index-2
-overflow-cast-index-2 g c =
+pub overflow_cast-index-2 : goal.overflow_cast-index-2
+overflow_cast-index-2 g c =
     let a = g.F.Arithmetic.figures in
     let sizes = c.requires.sizes in
     let t = flipped (table a.ring (part c.args.index.now c.args.start c.args.end) (meanings a (part c.args.figures.now c.args.start c.args.end))) in
@@ -192,8 +192,8 @@ bounds-index-base-2 g c =
     let within = start_within a c.args.order (omega arith) t c.args.base c.args.index.now c.args.figures.now (omega arith) (omega arith) c.loop-row.row c.loop-row.index c.loop-row.figures c.loop-row.next c.loop-row.at c.loop-row.invariant (omega arith) in
     omega arith
 
-pub offset-bounds-figures-base-2 : goal.offset-bounds-figures-base-2
-offset-bounds-figures-base-2 g c =
+pub offset_bounds-figures-base-2 : goal.offset_bounds-figures-base-2
+offset_bounds-figures-base-2 g c =
     let a = g.F.Arithmetic.figures in
     let sizes = c.requires.sizes in
     let t = flipped (table a.ring (part c.args.index.now c.args.start c.args.end) (meanings a (part c.args.figures.now c.args.start c.args.end))) in

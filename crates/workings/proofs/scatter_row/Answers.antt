@@ -7,8 +7,8 @@ use Rattle.workings.proofs.scatter_row.Goals as goal
 pub loop-p-init : goal.loop-p-init
 loop-p-init g c = scatter_none _ _ _ _ c.requires.sound c.args.i (omega arith) _ _
 
-pub offset-bounds-out-j-in-loop-p : goal.offset-bounds-out-j-in-loop-p
-offset-bounds-out-j-in-loop-p g c =
+pub offset_bounds-out-j-in-loop-p : goal.offset_bounds-out-j-in-loop-p
+offset_bounds-out-j-in-loop-p g c =
     let w = c.loop-p.invariant in
     let column = w.columns c.loop-p.p w.from (omega arith) in
     search rules

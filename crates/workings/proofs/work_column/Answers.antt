@@ -16,8 +16,8 @@ loop-p-init g c =
       worked_start _ _ _ _ c.requires.sound (figure_at a.ring (meanings a c.args.x.now)) c.args.i (omega arith) _ (c.multiply-total.ensures ∙ ap₂ a.ring.mul f x),
     )
 
-pub offset-bounds-x-words : goal.offset-bounds-x-words
-offset-bounds-x-words g c = omega (arith, (cell_at _ _ _ _ c.requires.sound c.args.i (omega arith) c.loop-p.p c.loop-p.invariant.1 (omega arith)).0)
+pub offset_bounds-x-words : goal.offset_bounds-x-words
+offset_bounds-x-words g c = omega (arith, (cell_at _ _ _ _ c.requires.sound c.args.i (omega arith) c.loop-p.p c.loop-p.invariant.1 (omega arith)).0)
 
 pub bounds-x-words : goal.bounds-x-words
 bounds-x-words g c = omega (arith, (cell_at _ _ _ _ c.requires.sound c.args.i (omega arith) c.loop-p.p c.loop-p.invariant.1 (omega arith)).0)

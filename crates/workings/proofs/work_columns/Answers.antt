@@ -10,7 +10,7 @@ loop-i-preserved g c =
     let a = g.F.Arithmetic.figures in
     let out = c.loop-i.out in
     let low : c.loop-i.i < length (meanings a out) = simp length-meanings (omega arith) in
-    simp (meanings_set a out c.loop-i.i c.work-column.result, c.work-column.ensures) (fill_by_more _ (meanings a out) c.loop-i.i a.ring.zero low c.loop-i.invariant)
+    simp (meanings_set a out c.loop-i.i c.work_column.result, c.work_column.ensures) (fill_by_more _ (meanings a out) c.loop-i.i a.ring.zero low c.loop-i.invariant)
 
 pub returns : goal.returns
 returns g c =
