@@ -16,7 +16,7 @@ pub(crate) fn find_pair<F: Arithmetic>(
     first: usize,
     second: usize,
 ) -> Result<((usize, usize), (usize, usize)), Refusal>
-    ensures { PairFound F.Arithmetic.figures (record { header = header.entry.now; index = index.now; figures = figures.now }) first second result }
+    ensures { PairFound F.Arithmetic.figures (record { header = header.now; index = index.now; figures = figures.now }) first second result }
 {
     check_book(header, index, figures)?;
     let sheets = header[1] as usize;
@@ -44,7 +44,7 @@ pub fn add<F: Arithmetic>(
     first: usize,
     second: usize,
 ) -> Result<usize, Refusal>
-    ensures { Outcome F.Arithmetic.figures (record { header = header.entry.now; index = index.old; figures = figures.old }) (Add first second) result (record { header = header.exit.now; index = index.new; figures = figures.new }) }
+    ensures { Outcome F.Arithmetic.figures (record { header = header.old; index = index.old; figures = figures.old }) (Add first second) result (record { header = header.new; index = index.new; figures = figures.new }) }
 {
     let ((a, a_end), (b, b_end)) = find_pair(header, index, figures, first, second)?;
     let order = header[0] as usize;

@@ -12,7 +12,7 @@ pub(crate) fn check_layout<F: Arithmetic>(
     index: &[u32],
     figures: &[F],
 ) -> Result<(), Refusal>
-    ensures { LayoutChecked (record { header = header.entry.now; index = index.now; figures = figures.now }) result }
+    ensures { LayoutChecked (record { header = header.now; index = index.now; figures = figures.now }) result }
 {
     if header.len() != HEADER_WORDS {
         return Err(Refusal::Layout(0));
@@ -49,7 +49,7 @@ fn word_keeps(header: &[u32], capacity: usize, w: usize) -> bool
 // Whether every word of the header keeps its rule.
 fn check_header<F: Arithmetic>(header: &[u32], index: &[u32], figures: &[F]) -> Result<(), Refusal>
     requires { length header.now ≡ 19 }
-    ensures { HeaderChecked (record { header = header.entry.now; index = index.now; figures = figures.now }) result }
+    ensures { HeaderChecked (record { header = header.now; index = index.now; figures = figures.now }) result }
 {
     for w in 0..HEADER_WORDS {
         if !word_keeps(header, index.len(), w) {
@@ -65,7 +65,7 @@ pub fn check_book<F: Arithmetic>(
     index: &[u32],
     figures: &[F],
 ) -> Result<(), Refusal>
-    ensures { BookChecked F.Arithmetic.figures (record { header = header.entry.now; index = index.now; figures = figures.now }) result }
+    ensures { BookChecked F.Arithmetic.figures (record { header = header.now; index = index.now; figures = figures.now }) result }
 {
     check_layout(header, index, figures)?;
     check_header(header, index, figures)?;

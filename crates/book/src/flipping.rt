@@ -13,7 +13,7 @@ pub fn flip<F: Arithmetic>(
     figures: &mut [F],
     sheet: usize,
 ) -> Result<usize, Refusal>
-    ensures { Outcome F.Arithmetic.figures (record { header = header.entry.now; index = index.old; figures = figures.old }) (Flip sheet) result (record { header = header.exit.now; index = index.new; figures = figures.new }) }
+    ensures { Outcome F.Arithmetic.figures (record { header = header.old; index = index.old; figures = figures.old }) (Flip sheet) result (record { header = header.new; index = index.new; figures = figures.new }) }
 {
     let (from, to) = find_sheet(header, index, figures, sheet)?;
     let sheets = header[1] as usize;

@@ -29,7 +29,7 @@ pub fn load<F: Arithmetic>(
     columns: &[u32],
     values: &[F],
 ) -> Result<usize, Refusal>
-    ensures { Outcome F.Arithmetic.figures (record { header = header.entry.now; index = index.old; figures = figures.old }) (Load rows.now columns.now values.now) result (record { header = header.exit.now; index = index.new; figures = figures.new }) }
+    ensures { Outcome F.Arithmetic.figures (record { header = header.old; index = index.old; figures = figures.old }) (Load rows.now columns.now values.now) result (record { header = header.new; index = index.new; figures = figures.new }) }
 {
     check_book(header, index, figures)?;
     check_lists(rows, columns, values)?;

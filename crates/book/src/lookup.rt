@@ -12,7 +12,7 @@ pub(crate) fn find_sheet<F: Arithmetic>(
     figures: &[F],
     sheet: usize,
 ) -> Result<(usize, usize), Refusal>
-    ensures { SheetFound F.Arithmetic.figures (record { header = header.entry.now; index = index.now; figures = figures.now }) sheet result }
+    ensures { SheetFound F.Arithmetic.figures (record { header = header.now; index = index.now; figures = figures.now }) sheet result }
 {
     check_book(header, index, figures)?;
     if sheet >= header[1] as usize {
@@ -30,7 +30,7 @@ pub fn cell<F: Arithmetic>(
     row: usize,
     column: usize,
 ) -> Result<F, Refusal>
-    ensures { CellIs F.Arithmetic.figures (record { header = header.entry.now; index = index.now; figures = figures.now }) sheet row column result }
+    ensures { CellIs F.Arithmetic.figures (record { header = header.now; index = index.now; figures = figures.now }) sheet row column result }
 {
     let (from, to) = find_sheet(header, index, figures, sheet)?;
     let order = header[0] as usize;
@@ -52,8 +52,8 @@ pub fn row<F: Arithmetic>(
     sheet: usize,
     row: usize,
 ) -> Result<(usize, usize), Refusal>
-    ensures is { RowIs F.Arithmetic.figures (record { header = header.entry.now; index = index.now; figures = figures.now }) sheet row result }
-    ensures within { Between {S = F} (record { header = header.entry.now; index = index.now; figures = figures.now }) result }
+    ensures is { RowIs F.Arithmetic.figures (record { header = header.now; index = index.now; figures = figures.now }) sheet row result }
+    ensures within { Between {S = F} (record { header = header.now; index = index.now; figures = figures.now }) result }
 {
     let (from, to) = find_sheet(header, index, figures, sheet)?;
     if row >= header[0] as usize {
@@ -71,7 +71,7 @@ pub fn columns<'a, F: Arithmetic>(
     sheet: usize,
     row: usize,
 ) -> Result<&'a [u32], Refusal>
-    ensures { RowPartIs F.Arithmetic.figures (record { header = header.entry.now; index = index.now; figures = figures.now }) index.now sheet row result }
+    ensures { RowPartIs F.Arithmetic.figures (record { header = header.now; index = index.now; figures = figures.now }) index.now sheet row result }
 {
     let (from, to) = self::row(header, index, figures, sheet, row)?;
     Ok(&index[from..to])
@@ -85,7 +85,7 @@ pub fn figures<'a, F: Arithmetic>(
     sheet: usize,
     row: usize,
 ) -> Result<&'a [F], Refusal>
-    ensures { RowPartIs F.Arithmetic.figures (record { header = header.entry.now; index = index.now; figures = figures.now }) figures.now sheet row result }
+    ensures { RowPartIs F.Arithmetic.figures (record { header = header.now; index = index.now; figures = figures.now }) figures.now sheet row result }
 {
     let (from, to) = self::row(header, index, figures, sheet, row)?;
     Ok(&figures[from..to])

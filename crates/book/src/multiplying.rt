@@ -14,7 +14,7 @@ pub fn multiply<F: Arithmetic>(
     first: usize,
     second: usize,
 ) -> Result<usize, Refusal>
-    ensures { Outcome F.Arithmetic.figures (record { header = header.entry.now; index = index.old; figures = figures.old }) (Multiply first second) result (record { header = header.exit.now; index = index.new; figures = figures.new }) }
+    ensures { Outcome F.Arithmetic.figures (record { header = header.old; index = index.old; figures = figures.old }) (Multiply first second) result (record { header = header.new; index = index.new; figures = figures.new }) }
 {
     let ((a, a_end), (b, b_end)) = find_pair(header, index, figures, first, second)?;
     let order = header[0] as usize;

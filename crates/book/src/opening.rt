@@ -13,7 +13,7 @@ pub fn check_open<F: Arithmetic>(
     figures: &[F],
     order: usize,
 ) -> Result<(), Refusal>
-    ensures { OpenChecked (record { header = header.entry.now; index = index.now; figures = figures.now }) order result }
+    ensures { OpenChecked (record { header = header.now; index = index.now; figures = figures.now }) order result }
 {
     check_layout(header, index, figures)?;
     if order == 0 || order > LARGEST_ORDER {
@@ -29,7 +29,7 @@ pub fn open<F: Arithmetic>(
     figures: &mut [F],
     order: usize,
 ) -> Result<usize, Refusal>
-    ensures { Outcome F.Arithmetic.figures (record { header = header.entry.now; index = index.old; figures = figures.old }) (Open order) result (record { header = header.exit.now; index = index.new; figures = figures.new }) }
+    ensures { Outcome F.Arithmetic.figures (record { header = header.old; index = index.old; figures = figures.old }) (Open order) result (record { header = header.new; index = index.new; figures = figures.new }) }
 {
     check_open(header, index, figures, order)?;
     header.fill(0);

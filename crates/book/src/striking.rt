@@ -10,7 +10,7 @@ pub fn strike<F: Arithmetic>(
     index: &mut [u32],
     figures: &mut [F],
 ) -> Result<usize, Refusal>
-    ensures { Outcome F.Arithmetic.figures (record { header = header.entry.now; index = index.old; figures = figures.old }) Strike result (record { header = header.exit.now; index = index.new; figures = figures.new }) }
+    ensures { Outcome F.Arithmetic.figures (record { header = header.old; index = index.old; figures = figures.old }) Strike result (record { header = header.new; index = index.new; figures = figures.new }) }
 {
     check_book(header, index, figures)?;
     let sheets = header[1] as usize;

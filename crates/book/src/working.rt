@@ -15,7 +15,7 @@ fn find_working<F: Arithmetic>(
     given: &[F],
     out: &[F],
 ) -> Result<(usize, usize), Refusal>
-    ensures { WorkingFound F.Arithmetic.figures (record { header = header.entry.now; index = index.now; figures = figures.now }) sheet given.now out.now result }
+    ensures { WorkingFound F.Arithmetic.figures (record { header = header.now; index = index.now; figures = figures.now }) sheet given.now out.now result }
 {
     check_book(header, index, figures)?;
     let order = header[0] as usize;
@@ -40,7 +40,7 @@ pub fn column_working<F: Arithmetic>(
     x: &[F],
     out: &mut [F],
 ) -> Result<usize, Refusal>
-    ensures { ColumnWorked F.Arithmetic.figures (record { header = header.entry.now; index = index.now; figures = figures.now }) sheet x.now out.old result out.new }
+    ensures { ColumnWorked F.Arithmetic.figures (record { header = header.now; index = index.now; figures = figures.now }) sheet x.now out.old result out.new }
 {
     let (from, to) = find_working(header, index, figures, sheet, x, out)?;
     work_columns(
@@ -62,7 +62,7 @@ pub fn row_working<F: Arithmetic>(
     y: &[F],
     out: &mut [F],
 ) -> Result<usize, Refusal>
-    ensures { RowWorked F.Arithmetic.figures (record { header = header.entry.now; index = index.now; figures = figures.now }) sheet y.now out.old result out.new }
+    ensures { RowWorked F.Arithmetic.figures (record { header = header.now; index = index.now; figures = figures.now }) sheet y.now out.old result out.new }
 {
     let (from, to) = find_working(header, index, figures, sheet, y, out)?;
     work_rows(

@@ -24,7 +24,7 @@ fn check_desk<F: Arithmetic>(
     calls: &[Call<'_, F>],
     answers: &[Result<usize, Refusal>],
 ) -> Result<(), Refusal>
-    ensures { DeskChecked F.Arithmetic.figures order calls.now (record { book = record { header = header.entry.now; index = index.now; figures = figures.now }; answers = answers.now }) result }
+    ensures { DeskChecked F.Arithmetic.figures order calls.now (record { book = record { header = header.now; index = index.now; figures = figures.now }; answers = answers.now }) result }
 {
     if answers.len() != calls.len() {
         return Err(Refusal::Lengths(1));
@@ -41,7 +41,7 @@ pub fn work_book<F: Arithmetic>(
     calls: &[Call<'_, F>],
     answers: &mut [Result<usize, Refusal>],
 ) -> Result<(), Refusal>
-    ensures { Worked F.Arithmetic.figures order calls.now (record { book = record { header = header.entry.now; index = index.old; figures = figures.old }; answers = answers.old }) result (record { book = record { header = header.exit.now; index = index.new; figures = figures.new }; answers = answers.new }) }
+    ensures { Worked F.Arithmetic.figures order calls.now (record { book = record { header = header.old; index = index.old; figures = figures.old }; answers = answers.old }) result (record { book = record { header = header.new; index = index.new; figures = figures.new }; answers = answers.new }) }
 {
     check_desk(order, header, index, figures, calls, answers)?;
     open(header, index, figures, order)?;
@@ -70,7 +70,7 @@ pub fn work_both<F: Arithmetic>(
     forward: &mut [F],
     spare: &mut [F],
 ) -> Result<(F, F), Halt>
-    ensures { BothOutcome F.Arithmetic.figures order calls.now calls2.now line.now x.now y.now (record { first = record { book = record { header = header.entry.now; index = index.old; figures = figures.old }; answers = answers.old }; second = record { book = record { header = header2.old; index = index2.old; figures = figures2.old }; answers = answers2.old }; vectors = record { back = back.entry.now; forward = forward.old; spare = spare.old } }) result (record { first = record { book = record { header = header.exit.now; index = index.new; figures = figures.new }; answers = answers.new }; second = record { book = record { header = header2.new; index = index2.new; figures = figures2.new }; answers = answers2.new }; vectors = record { back = back.exit.now; forward = forward.new; spare = spare.new } }) }
+    ensures { BothOutcome F.Arithmetic.figures order calls.now calls2.now line.now x.now y.now (record { first = record { book = record { header = header.old; index = index.old; figures = figures.old }; answers = answers.old }; second = record { book = record { header = header2.old; index = index2.old; figures = figures2.old }; answers = answers2.old }; vectors = record { back = back.entry.now; forward = forward.old; spare = spare.old } }) result (record { first = record { book = record { header = header.new; index = index.new; figures = figures.new }; answers = answers.new }; second = record { book = record { header = header2.new; index = index2.new; figures = figures2.new }; answers = answers2.new }; vectors = record { back = back.exit.now; forward = forward.new; spare = spare.new } }) }
 {
     if let Err(why) = check_desk(order, header, index, figures, calls, answers) {
         return Err(Halt::First(why));

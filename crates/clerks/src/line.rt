@@ -59,7 +59,7 @@ fn check_line<F: Arithmetic>(
     forward: &[F],
     spare: &[F],
 ) -> Result<(), Refusal>
-    ensures { LineChecked F.Arithmetic.figures (record { header = header.entry.now; index = index.now; figures = figures.now }) line.now (x.now ∷ (y.now ∷ (back.now ∷ (forward.now ∷ (spare.now ∷ []))))) result }
+    ensures { LineChecked F.Arithmetic.figures (record { header = header.now; index = index.now; figures = figures.now }) line.now (x.now ∷ (y.now ∷ (back.now ∷ (forward.now ∷ (spare.now ∷ []))))) result }
 {
     check_book(header, index, figures)?;
     check_lengths(header[0] as usize, x, y, back, forward, spare)?;
@@ -79,7 +79,7 @@ fn carry_back<F: Arithmetic>(
 ) -> Result<(), Refusal>
     requires stands { LineStands F.Arithmetic.figures (record { header = header.now; index = index.now; figures = figures.now }) line.now }
     requires long { (length x.now ≡ order_of (record { header = header.now; index = index.now; figures = figures.now })) × ((length out.old ≡ length x.now) × (length spare.old ≡ length x.now)) }
-    ensures { BackDone F.Arithmetic.figures (record { header = header.entry.now; index = index.now; figures = figures.now }) line.now x.now out.new result }
+    ensures { BackDone F.Arithmetic.figures (record { header = header.now; index = index.now; figures = figures.now }) line.now x.now out.new result }
 {
     out.copy_from_slice(x);
     let mut i = line.len();
@@ -103,7 +103,7 @@ fn carry_forward<F: Arithmetic>(
 ) -> Result<(), Refusal>
     requires stands { LineStands F.Arithmetic.figures (record { header = header.now; index = index.now; figures = figures.now }) line.now }
     requires long { (length y.now ≡ order_of (record { header = header.now; index = index.now; figures = figures.now })) × ((length out.old ≡ length y.now) × (length spare.old ≡ length y.now)) }
-    ensures { ForwardDone F.Arithmetic.figures (record { header = header.entry.now; index = index.now; figures = figures.now }) line.now y.now out.new result }
+    ensures { ForwardDone F.Arithmetic.figures (record { header = header.now; index = index.now; figures = figures.now }) line.now y.now out.new result }
 {
     out.copy_from_slice(y);
     for i in 0..line.len() {
@@ -126,7 +126,7 @@ pub fn line_totals<F: Arithmetic>(
     forward: &mut [F],
     spare: &mut [F],
 ) -> Result<(F, F), Refusal>
-    ensures { LineOutcome F.Arithmetic.figures (record { header = header.entry.now; index = index.now; figures = figures.now }) line.now x.now y.now (record { back = back.entry.now; forward = forward.old; spare = spare.old }) result (record { back = back.exit.now; forward = forward.new; spare = spare.new }) }
+    ensures { LineOutcome F.Arithmetic.figures (record { header = header.now; index = index.now; figures = figures.now }) line.now x.now y.now (record { back = back.entry.now; forward = forward.old; spare = spare.old }) result (record { back = back.exit.now; forward = forward.new; spare = spare.new }) }
 {
     check_line(header, index, figures, line, x, y, back, forward, spare)?;
     carry_back(header, index, figures, line, x, back, spare)?;

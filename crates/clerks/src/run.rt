@@ -12,7 +12,7 @@ pub fn carry_out<F: Arithmetic>(
     figures: &mut [F],
     call: Call<'_, F>,
 ) -> Result<usize, Refusal>
-    ensures { Outcome F.Arithmetic.figures (record { header = header.entry.now; index = index.old; figures = figures.old }) (asked call.entry) result (record { header = header.exit.now; index = index.new; figures = figures.new }) }
+    ensures { Outcome F.Arithmetic.figures (record { header = header.old; index = index.old; figures = figures.old }) (asked call.entry) result (record { header = header.new; index = index.new; figures = figures.new }) }
 {
     match call {
         Call::Unit => unit(header, index, figures),
@@ -37,7 +37,7 @@ pub fn carry_out_all<F: Arithmetic>(
     calls: &[Call<'_, F>],
     answers: &mut [Result<usize, Refusal>],
 ) -> Result<(), Refusal>
-    ensures { CarriedOut F.Arithmetic.figures (record { header = header.entry.now; index = index.old; figures = figures.old }) calls.now answers.old result (record { header = header.exit.now; index = index.new; figures = figures.new }) answers.new }
+    ensures { CarriedOut F.Arithmetic.figures (record { header = header.old; index = index.old; figures = figures.old }) calls.now answers.old result (record { header = header.new; index = index.new; figures = figures.new }) answers.new }
 {
     if answers.len() != calls.len() {
         return Err(Refusal::Lengths(1));

@@ -10,96 +10,96 @@ use Rattle.book.proofs.Pairs.{place_table, place_before, pair_granted}
 use Rattle.book.proofs.Rooms.{making_sent, making_fits, making_done}
 use Rattle.book.proofs.adding.add.Goals as goal
 
-pub returns-in-err-a : goal.returns-in-err-a
-returns-in-err-a g c =
+pub returns-in_err-a : goal.returns-in_err-a
+returns-in_err-a g c =
     let a = g.F.Arithmetic.figures in
     let b : Arrays g.row.F.Denot = record { header = c.args.header.now; index = c.args.index.now; figures = c.args.figures.now } in
     let i = c.args.first in
     let j = c.args.second in
-    let p = early_by (pair_guard a b i j) (no_room a b (added a.ring (sheet_table a b i) (sheet_table a b j)) ∷ []) c.from-residual.result c.in-err-a.field-0.0 c.from-residual.ensures.1 c.in-err-a.ensures in
+    let p = early_by (pair_guard a b i j) (no_room a b (added a.ring (sheet_table a b i) (sheet_table a b j)) ∷ []) c.from_residual.result c.in_err-a.field-0.0 c.from_residual.ensures.1 c.in_err-a.ensures in
     rw p.1 (p.2, refl)
 
-pub added-length-at-size-requires : goal.added-length-at-size-requires
-added-length-at-size-requires g c =
+pub added_length_at-size-requires : goal.added_length_at-size-requires
+added_length_at-size-requires g c =
     let a = g.F.Arithmetic.figures in
     let b : Arrays g.row.F.Denot = record { header = c.args.header.now; index = c.args.index.now; figures = c.args.figures.now } in
     let i = c.args.first in
     let j = c.args.second in
-    let found = c.in-ok-a.ensures in
+    let found = c.in_ok-a.ensures in
     let sound = found.0.sound in
-    let before = place_before a b i c.in-ok-a.a c.in-ok-a.a-end found.0 in
-    let before' = place_before a b j c.in-ok-a.b c.in-ok-a.b-end found.1 in
+    let before = place_before a b i c.in_ok-a.a c.in_ok-a.a_end found.0 in
+    let before' = place_before a b j c.in_ok-a.b c.in_ok-a.b_end found.1 in
     record {
-      one = place_sound a b i c.in-ok-a.a c.in-ok-a.a-end found.0;
-      two = place_sound a b j c.in-ok-a.b c.in-ok-a.b-end found.1;
+      one = place_sound a b i c.in_ok-a.a c.in_ok-a.a_end found.0;
+      two = place_sound a b j c.in_ok-a.b c.in_ok-a.b_end found.1;
       ends = (before.0, (found.0.within, (before'.0, found.1.within)));
       sizes = (sym sound.lengths, (sound.small, order_most a b sound));
     }
 
-pub overflow-sub-index : goal.overflow-sub-index
-overflow-sub-index g c =
+pub overflow_sub-index : goal.overflow_sub-index
+overflow_sub-index g c =
     let a = g.F.Arithmetic.figures in
     let b : Arrays g.row.F.Denot = record { header = c.args.header.now; index = c.args.index.now; figures = c.args.figures.now } in
-    end_within b c.in-ok-a.ensures.0.sound.header_rules
+    end_within b c.in_ok-a.ensures.0.sound.header_rules
 
-pub returns-in-err-check-room : goal.returns-in-err-check-room
-returns-in-err-check-room g c =
+pub returns-in_err-check_room : goal.returns-in_err-check_room
+returns-in_err-check_room g c =
     let a = g.F.Arithmetic.figures in
     let b : Arrays g.row.F.Denot = record { header = c.args.header.now; index = c.args.index.now; figures = c.args.figures.now } in
     let i = c.args.first in
     let j = c.args.second in
-    let found = c.in-ok-a.ensures in
+    let found = c.in_ok-a.ensures in
     let sound = found.0.sound in
-    let one = place_table a b i c.in-ok-a.a c.in-ok-a.a-end found.0 in
-    let two = place_table a b j c.in-ok-a.b c.in-ok-a.b-end found.1 in
-    let p = making_sent a b sound (pair_guard a b i j) (pair_granted a b i j sound found.0.there found.1.there found.2) (added a.ring (sheet_table a b i) (sheet_table a b j)) _ (ap₂ (λ x y. added a.ring x y) one two) c.added-length-at-size.result c.added-length-at-size.ensures c.from-residual-in-err-check-room.result c.in-err-check-room.field-0.0 c.from-residual-in-err-check-room.ensures.1 c.in-err-check-room.ensures in
+    let one = place_table a b i c.in_ok-a.a c.in_ok-a.a_end found.0 in
+    let two = place_table a b j c.in_ok-a.b c.in_ok-a.b_end found.1 in
+    let p = making_sent a b sound (pair_guard a b i j) (pair_granted a b i j sound found.0.there found.1.there found.2) (added a.ring (sheet_table a b i) (sheet_table a b j)) _ (ap₂ (λ x y. added a.ring x y) one two) c.added_length_at-size.result c.added_length_at-size.ensures c.from_residual-in_err-check_room.result c.in_err-check_room.field-0.0 c.from_residual-in_err-check_room.ensures.1 c.in_err-check_room.ensures in
     rw p.1 (p.2, refl)
 
-pub write-added-requires : goal.write-added-requires
-write-added-requires g c =
+pub write_added-requires : goal.write_added-requires
+write_added-requires g c =
     let a = g.F.Arithmetic.figures in
     let b : Arrays g.row.F.Denot = record { header = c.args.header.now; index = c.args.index.now; figures = c.args.figures.now } in
     let i = c.args.first in
     let j = c.args.second in
-    let found = c.in-ok-a.ensures in
+    let found = c.in_ok-a.ensures in
     let sound = found.0.sound in
-    let one = place_table a b i c.in-ok-a.a c.in-ok-a.a-end found.0 in
-    let two = place_table a b j c.in-ok-a.b c.in-ok-a.b-end found.1 in
-    let before = place_before a b i c.in-ok-a.a c.in-ok-a.a-end found.0 in
-    let before' = place_before a b j c.in-ok-a.b c.in-ok-a.b-end found.1 in
-    let fits = making_fits a b sound (pair_guard a b i j) (pair_granted a b i j sound found.0.there found.1.there found.2) (added a.ring (sheet_table a b i) (sheet_table a b j)) _ (ap₂ (λ x y. added a.ring x y) one two) c.added-length-at-size.result c.added-length-at-size.ensures c.in-ok-check-room.ensures in
+    let one = place_table a b i c.in_ok-a.a c.in_ok-a.a_end found.0 in
+    let two = place_table a b j c.in_ok-a.b c.in_ok-a.b_end found.1 in
+    let before = place_before a b i c.in_ok-a.a c.in_ok-a.a_end found.0 in
+    let before' = place_before a b j c.in_ok-a.b c.in_ok-a.b_end found.1 in
+    let fits = making_fits a b sound (pair_guard a b i j) (pair_granted a b i j sound found.0.there found.1.there found.2) (added a.ring (sheet_table a b i) (sheet_table a b j)) _ (ap₂ (λ x y. added a.ring x y) one two) c.added_length_at-size.result c.added_length_at-size.ensures c.in_ok-check_room.ensures in
     record {
-      one = place_sound a b i c.in-ok-a.a c.in-ok-a.a-end found.0;
-      two = place_sound a b j c.in-ok-a.b c.in-ok-a.b-end found.1;
+      one = place_sound a b i c.in_ok-a.a c.in_ok-a.a_end found.0;
+      two = place_sound a b j c.in_ok-a.b c.in_ok-a.b_end found.1;
       ends = (before.0, (before.1, (before'.0, before'.1)));
       sizes = (sym sound.lengths, (sound.small, (order_most a b sound, fits.1)));
       room = fits.0;
     }
 
-pub overflow-add-end-2 : goal.overflow-add-end-2
-overflow-add-end-2 g c =
+pub overflow_add-end-2 : goal.overflow_add-end-2
+overflow_add-end-2 g c =
     let a = g.F.Arithmetic.figures in
     let b : Arrays g.row.F.Denot = record { header = c.args.header.now; index = c.args.index.now; figures = c.args.figures.now } in
     let i = c.args.first in
     let j = c.args.second in
-    let found = c.in-ok-a.ensures in
+    let found = c.in_ok-a.ensures in
     let sound = found.0.sound in
-    let one = place_table a b i c.in-ok-a.a c.in-ok-a.a-end found.0 in
-    let two = place_table a b j c.in-ok-a.b c.in-ok-a.b-end found.1 in
-    let fits = making_fits a b sound (pair_guard a b i j) (pair_granted a b i j sound found.0.there found.1.there found.2) (added a.ring (sheet_table a b i) (sheet_table a b j)) _ (ap₂ (λ x y. added a.ring x y) one two) c.added-length-at-size.result c.added-length-at-size.ensures c.in-ok-check-room.ensures in
+    let one = place_table a b i c.in_ok-a.a c.in_ok-a.a_end found.0 in
+    let two = place_table a b j c.in_ok-a.b c.in_ok-a.b_end found.1 in
+    let fits = making_fits a b sound (pair_guard a b i j) (pair_granted a b i j sound found.0.there found.1.there found.2) (added a.ring (sheet_table a b i) (sheet_table a b j)) _ (ap₂ (λ x y. added a.ring x y) one two) c.added_length_at-size.result c.added_length_at-size.ensures c.in_ok-check_room.ensures in
     omega (arith, fits.2)
 
-pub enter-sheet-requires : goal.enter-sheet-requires
-enter-sheet-requires g c =
+pub enter_sheet-requires : goal.enter_sheet-requires
+enter_sheet-requires g c =
     let a = g.F.Arithmetic.figures in
     let b : Arrays g.row.F.Denot = record { header = c.args.header.now; index = c.args.index.now; figures = c.args.figures.now } in
     let i = c.args.first in
     let j = c.args.second in
-    let found = c.in-ok-a.ensures in
+    let found = c.in_ok-a.ensures in
     let sound = found.0.sound in
-    let one = place_table a b i c.in-ok-a.a c.in-ok-a.a-end found.0 in
-    let two = place_table a b j c.in-ok-a.b c.in-ok-a.b-end found.1 in
-    let fits = making_fits a b sound (pair_guard a b i j) (pair_granted a b i j sound found.0.there found.1.there found.2) (added a.ring (sheet_table a b i) (sheet_table a b j)) _ (ap₂ (λ x y. added a.ring x y) one two) c.added-length-at-size.result c.added-length-at-size.ensures c.in-ok-check-room.ensures in
+    let one = place_table a b i c.in_ok-a.a c.in_ok-a.a_end found.0 in
+    let two = place_table a b j c.in_ok-a.b c.in_ok-a.b_end found.1 in
+    let fits = making_fits a b sound (pair_guard a b i j) (pair_granted a b i j sound found.0.there found.1.there found.2) (added a.ring (sheet_table a b i) (sheet_table a b j)) _ (ap₂ (λ x y. added a.ring x y) one two) c.added_length_at-size.result c.added_length_at-size.ensures c.in_ok-check_room.ensures in
     (sound.words, (found.2, fits.2))
 
 pub returns : goal.returns
@@ -108,9 +108,9 @@ returns g c =
     let b : Arrays g.row.F.Denot = record { header = c.args.header.now; index = c.args.index.now; figures = c.args.figures.now } in
     let i = c.args.first in
     let j = c.args.second in
-    let found = c.in-ok-a.ensures in
+    let found = c.in_ok-a.ensures in
     let sound = found.0.sound in
-    let one = place_table a b i c.in-ok-a.a c.in-ok-a.a-end found.0 in
-    let two = place_table a b j c.in-ok-a.b c.in-ok-a.b-end found.1 in
-    let done = making_done a b sound (pair_guard a b i j) (pair_granted a b i j sound found.0.there found.1.there found.2) (added a.ring (sheet_table a b i) (sheet_table a b j)) _ (ap₂ (λ x y. added a.ring x y) one two) c.added-length-at-size.result c.added-length-at-size.ensures c.in-ok-check-room.ensures c.enter-sheet.new.header c.write-added.new.index c.write-added.new.figures c.write-added.ensures c.enter-sheet.ensures.words in
-    (done.0, (c.enter-sheet.ensures.number, done.1))
+    let one = place_table a b i c.in_ok-a.a c.in_ok-a.a_end found.0 in
+    let two = place_table a b j c.in_ok-a.b c.in_ok-a.b_end found.1 in
+    let done = making_done a b sound (pair_guard a b i j) (pair_granted a b i j sound found.0.there found.1.there found.2) (added a.ring (sheet_table a b i) (sheet_table a b j)) _ (ap₂ (λ x y. added a.ring x y) one two) c.added_length_at-size.result c.added_length_at-size.ensures c.in_ok-check_room.ensures c.enter_sheet.new.header c.write_added.new.index c.write_added.new.figures c.write_added.ensures c.enter_sheet.ensures.words in
+    (done.0, (c.enter_sheet.ensures.number, done.1))

@@ -6,34 +6,34 @@ use Rattle.book.proofs.Passing.{layout_passes, header_passes}
 use Rattle.book.proofs.Starts.{lies, few, all_keep, first_break}
 use Rattle.book.proofs.check.check_book.Goals as goal
 
-pub returns-in-err-check-header : goal.returns-in-err-check-header
-returns-in-err-check-header g c =
-    let p = err_from_is_err_and c.from-residual-in-err-check-header.result c.from-residual-in-err-check-header.ensures.1 in
+pub returns-in_err-check_header : goal.returns-in_err-check_header
+returns-in_err-check_header g c =
+    let p = err_from_is_err_and c.from_residual-in_err-check_header.result c.from_residual-in_err-check_header.ensures.1 in
     let b : Arrays g.row.F.Denot = record { header = c.args.header.now; index = c.args.index.now; figures = c.args.figures.now } in
-    rw (p.1, p.2) (inr (layout_passes b c.in-ok-check-layout.ensures, inl c.in-err-check-header.ensures))
+    rw (p.1, p.2) (inr (layout_passes b c.in_ok-check_layout.ensures, inl c.in_err-check_header.ensures))
 
 pub loop-k-init : goal.loop-k-init
 loop-k-init g c =
-    let headed = c.in-ok-check-header.ensures in
+    let headed = c.in_ok-check_header.ensures in
     (few _ _ headed, lies _ _ headed, λ j h. absurd (omega arith))
 
-pub returns-in-err-check-sheet : goal.returns-in-err-check-sheet
-returns-in-err-check-sheet g c =
+pub returns-in_err-check_sheet : goal.returns-in_err-check_sheet
+returns-in_err-check_sheet g c =
     let a = g.F.Arithmetic.figures in
-    let p = err_from_is_err_and c.from-residual-in-err-check-sheet.result c.from-residual-in-err-check-sheet.ensures.1 in
+    let p = err_from_is_err_and c.from_residual-in_err-check_sheet.result c.from_residual-in_err-check_sheet.ensures.1 in
     let b : Arrays g.row.F.Denot = record { header = c.args.header.now; index = c.args.index.now; figures = c.args.figures.now } in
-    let headed = c.in-ok-check-header.ensures in
-    let broken = c.in-err-check-sheet.ensures in
-    rw (p.1, p.2) (inr (layout_passes b c.in-ok-check-layout.ensures, inr (header_passes b headed, inl (_, broken.1, first_break a b headed c.loop-k.k broken.0 c.loop-k-test.true c.loop-k.invariant.2 broken.2))))
+    let headed = c.in_ok-check_header.ensures in
+    let broken = c.in_err-check_sheet.ensures in
+    rw (p.1, p.2) (inr (layout_passes b c.in_ok-check_layout.ensures, inr (header_passes b headed, inl (_, broken.1, first_break a b headed c.loop-k.k broken.0 c.loop-k-test.true c.loop-k.invariant.2 broken.2))))
 
 pub loop-k-preserved : goal.loop-k-preserved
-loop-k-preserved g c = (c.loop-k.invariant.0, c.loop-k.invariant.1, below_more _ _ c.loop-k.invariant.2 c.in-ok-check-sheet.ensures.rules)
+loop-k-preserved g c = (c.loop-k.invariant.0, c.loop-k.invariant.1, below_more _ _ c.loop-k.invariant.2 c.in_ok-check_sheet.ensures.rules)
 
 pub returns : goal.returns
 returns g c =
     let a = g.F.Arithmetic.figures in
     let b : Arrays g.row.F.Denot = record { header = c.args.header.now; index = c.args.index.now; figures = c.args.figures.now } in
-    let laid = c.in-ok-check-layout.ensures in
-    let headed = c.in-ok-check-header.ensures in
+    let laid = c.in_ok-check_layout.ensures in
+    let headed = c.in_ok-check_header.ensures in
     let all : c.loop-k.k ≡ get_or c.args.header.now 1 0 = omega arith in
     record { words = laid.words; lengths = laid.lengths; small = laid.small; header_rules = headed; positions = λ q h. all_keep a b headed (rw all at c.loop-k.invariant.2) q }

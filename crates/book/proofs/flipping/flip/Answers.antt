@@ -16,71 +16,71 @@ use Rattle.book.proofs.Pairs.{place_table, place_before, flip_granted}
 use Rattle.book.proofs.Rooms.{making_sent, making_fits, making_done}
 use Rattle.book.proofs.flipping.flip.Goals as goal
 
-pub returns-in-err-from : goal.returns-in-err-from
-returns-in-err-from g c =
+pub returns-in_err-from : goal.returns-in_err-from
+returns-in_err-from g c =
     let a = g.F.Arithmetic.figures in
     let b : Arrays g.row.F.Denot = record { header = c.args.header.now; index = c.args.index.now; figures = c.args.figures.now } in
     let k = c.args.sheet in
-    let p = early_by (sheet_guard a b k) (full (sheets_of b) ∷ (no_room a b (flipped (sheet_table a b k)) ∷ [])) c.from-residual.result c.in-err-from.field-0.0 c.from-residual.ensures.1 c.in-err-from.ensures in
+    let p = early_by (sheet_guard a b k) (full (sheets_of b) ∷ (no_room a b (flipped (sheet_table a b k)) ∷ [])) c.from_residual.result c.in_err-from.field-0.0 c.from_residual.ensures.1 c.in_err-from.ensures in
     rw p.1 (p.2, refl)
 
 pub bounds-header-sheets : goal.bounds-header-sheets
 bounds-header-sheets g c =
-    let sound = c.in-ok-from.ensures.sound in
+    let sound = c.in_ok-from.ensures.sound in
     omega (arith, few _ _ sound.header_rules, sound.words)
 
-pub overflow-sub-index : goal.overflow-sub-index
-overflow-sub-index g c =
+pub overflow_sub-index : goal.overflow_sub-index
+overflow_sub-index g c =
     let a = g.F.Arithmetic.figures in
     let b : Arrays g.row.F.Denot = record { header = c.args.header.now; index = c.args.index.now; figures = c.args.figures.now } in
     let k = c.args.sheet in
-    end_within b c.in-ok-from.ensures.sound.header_rules
+    end_within b c.in_ok-from.ensures.sound.header_rules
 
-pub returns-in-err-check-room : goal.returns-in-err-check-room
-returns-in-err-check-room g c =
+pub returns-in_err-check_room : goal.returns-in_err-check_room
+returns-in_err-check_room g c =
     let a = g.F.Arithmetic.figures in
     let b : Arrays g.row.F.Denot = record { header = c.args.header.now; index = c.args.index.now; figures = c.args.figures.now } in
     let k = c.args.sheet in
-    let found = c.in-ok-from.ensures in
+    let found = c.in_ok-from.ensures in
     let sound = found.sound in
-    let few = few_from (sheets_of b) (sheets_few a b sound) c.in-ok-check-full.ensures in
-    let whole = place_sound a b k c.in-ok-from.from c.in-ok-from.to found in
-    let size : c.in-ok-from.to - c.in-ok-from.from ≡ packed_length a.ring (order_of b) (flipped (table a.ring (part b.index c.in-ok-from.from c.in-ok-from.to) (meanings a (part b.figures c.in-ok-from.from c.in-ok-from.to)))) = sym (flipped_length a.ring (order_of b) _ _ whole ∙ part_long b.index c.in-ok-from.from c.in-ok-from.to found.within) in
-    let same = ap flipped (place_table a b k c.in-ok-from.from c.in-ok-from.to found) in
-    let p = making_sent a b sound (guard a b ++ (missing b (k ∷ []) ∷ (full (sheets_of b) ∷ []))) (flip_granted a b k sound found.there few) (flipped (sheet_table a b k)) _ same (c.in-ok-from.to - c.in-ok-from.from) size c.from-residual-in-err-check-room.result c.in-err-check-room.field-0.0 c.from-residual-in-err-check-room.ensures.1 c.in-err-check-room.ensures in
+    let few = few_from (sheets_of b) (sheets_few a b sound) c.in_ok-check_full.ensures in
+    let whole = place_sound a b k c.in_ok-from.from c.in_ok-from.to found in
+    let size : c.in_ok-from.to - c.in_ok-from.from ≡ packed_length a.ring (order_of b) (flipped (table a.ring (part b.index c.in_ok-from.from c.in_ok-from.to) (meanings a (part b.figures c.in_ok-from.from c.in_ok-from.to)))) = sym (flipped_length a.ring (order_of b) _ _ whole ∙ part_long b.index c.in_ok-from.from c.in_ok-from.to found.within) in
+    let same = ap flipped (place_table a b k c.in_ok-from.from c.in_ok-from.to found) in
+    let p = making_sent a b sound (guard a b ++ (missing b (k ∷ []) ∷ (full (sheets_of b) ∷ []))) (flip_granted a b k sound found.there few) (flipped (sheet_table a b k)) _ same (c.in_ok-from.to - c.in_ok-from.from) size c.from_residual-in_err-check_room.result c.in_err-check_room.field-0.0 c.from_residual-in_err-check_room.ensures.1 c.in_err-check_room.ensures in
     rw p.1 (p.2, refl)
 
-pub write-flipped-requires : goal.write-flipped-requires
-write-flipped-requires g c =
+pub write_flipped-requires : goal.write_flipped-requires
+write_flipped-requires g c =
     let a = g.F.Arithmetic.figures in
     let b : Arrays g.row.F.Denot = record { header = c.args.header.now; index = c.args.index.now; figures = c.args.figures.now } in
     let k = c.args.sheet in
-    let found = c.in-ok-from.ensures in
+    let found = c.in_ok-from.ensures in
     let sound = found.sound in
-    let few = few_from (sheets_of b) (sheets_few a b sound) c.in-ok-check-full.ensures in
-    let whole = place_sound a b k c.in-ok-from.from c.in-ok-from.to found in
-    let size : c.in-ok-from.to - c.in-ok-from.from ≡ packed_length a.ring (order_of b) (flipped (table a.ring (part b.index c.in-ok-from.from c.in-ok-from.to) (meanings a (part b.figures c.in-ok-from.from c.in-ok-from.to)))) = sym (flipped_length a.ring (order_of b) _ _ whole ∙ part_long b.index c.in-ok-from.from c.in-ok-from.to found.within) in
-    let same = ap flipped (place_table a b k c.in-ok-from.from c.in-ok-from.to found) in
-    let fits = making_fits a b sound (guard a b ++ (missing b (k ∷ []) ∷ (full (sheets_of b) ∷ []))) (flip_granted a b k sound found.there few) (flipped (sheet_table a b k)) _ same (c.in-ok-from.to - c.in-ok-from.from) size c.in-ok-check-room.ensures in
-    let before = place_before a b k c.in-ok-from.from c.in-ok-from.to found in
+    let few = few_from (sheets_of b) (sheets_few a b sound) c.in_ok-check_full.ensures in
+    let whole = place_sound a b k c.in_ok-from.from c.in_ok-from.to found in
+    let size : c.in_ok-from.to - c.in_ok-from.from ≡ packed_length a.ring (order_of b) (flipped (table a.ring (part b.index c.in_ok-from.from c.in_ok-from.to) (meanings a (part b.figures c.in_ok-from.from c.in_ok-from.to)))) = sym (flipped_length a.ring (order_of b) _ _ whole ∙ part_long b.index c.in_ok-from.from c.in_ok-from.to found.within) in
+    let same = ap flipped (place_table a b k c.in_ok-from.from c.in_ok-from.to found) in
+    let fits = making_fits a b sound (guard a b ++ (missing b (k ∷ []) ∷ (full (sheets_of b) ∷ []))) (flip_granted a b k sound found.there few) (flipped (sheet_table a b k)) _ same (c.in_ok-from.to - c.in_ok-from.from) size c.in_ok-check_room.ensures in
+    let before = place_before a b k c.in_ok-from.from c.in_ok-from.to found in
     record {
       sound = whole;
       ends = (before.0, (before.1, omega (arith, fits.0)));
       sizes = (sym sound.lengths, (sound.small, order_most a b sound));
     }
 
-pub enter-sheet-requires : goal.enter-sheet-requires
-enter-sheet-requires g c =
+pub enter_sheet-requires : goal.enter_sheet-requires
+enter_sheet-requires g c =
     let a = g.F.Arithmetic.figures in
     let b : Arrays g.row.F.Denot = record { header = c.args.header.now; index = c.args.index.now; figures = c.args.figures.now } in
     let k = c.args.sheet in
-    let found = c.in-ok-from.ensures in
+    let found = c.in_ok-from.ensures in
     let sound = found.sound in
-    let few = few_from (sheets_of b) (sheets_few a b sound) c.in-ok-check-full.ensures in
-    let whole = place_sound a b k c.in-ok-from.from c.in-ok-from.to found in
-    let size : c.in-ok-from.to - c.in-ok-from.from ≡ packed_length a.ring (order_of b) (flipped (table a.ring (part b.index c.in-ok-from.from c.in-ok-from.to) (meanings a (part b.figures c.in-ok-from.from c.in-ok-from.to)))) = sym (flipped_length a.ring (order_of b) _ _ whole ∙ part_long b.index c.in-ok-from.from c.in-ok-from.to found.within) in
-    let same = ap flipped (place_table a b k c.in-ok-from.from c.in-ok-from.to found) in
-    let fits = making_fits a b sound (guard a b ++ (missing b (k ∷ []) ∷ (full (sheets_of b) ∷ []))) (flip_granted a b k sound found.there few) (flipped (sheet_table a b k)) _ same (c.in-ok-from.to - c.in-ok-from.from) size c.in-ok-check-room.ensures in
+    let few = few_from (sheets_of b) (sheets_few a b sound) c.in_ok-check_full.ensures in
+    let whole = place_sound a b k c.in_ok-from.from c.in_ok-from.to found in
+    let size : c.in_ok-from.to - c.in_ok-from.from ≡ packed_length a.ring (order_of b) (flipped (table a.ring (part b.index c.in_ok-from.from c.in_ok-from.to) (meanings a (part b.figures c.in_ok-from.from c.in_ok-from.to)))) = sym (flipped_length a.ring (order_of b) _ _ whole ∙ part_long b.index c.in_ok-from.from c.in_ok-from.to found.within) in
+    let same = ap flipped (place_table a b k c.in_ok-from.from c.in_ok-from.to found) in
+    let fits = making_fits a b sound (guard a b ++ (missing b (k ∷ []) ∷ (full (sheets_of b) ∷ []))) (flip_granted a b k sound found.there few) (flipped (sheet_table a b k)) _ same (c.in_ok-from.to - c.in_ok-from.from) size c.in_ok-check_room.ensures in
     (sound.words, (few, fits.2))
 
 pub returns : goal.returns
@@ -88,11 +88,11 @@ returns g c =
     let a = g.F.Arithmetic.figures in
     let b : Arrays g.row.F.Denot = record { header = c.args.header.now; index = c.args.index.now; figures = c.args.figures.now } in
     let k = c.args.sheet in
-    let found = c.in-ok-from.ensures in
+    let found = c.in_ok-from.ensures in
     let sound = found.sound in
-    let few = few_from (sheets_of b) (sheets_few a b sound) c.in-ok-check-full.ensures in
-    let whole = place_sound a b k c.in-ok-from.from c.in-ok-from.to found in
-    let size : c.in-ok-from.to - c.in-ok-from.from ≡ packed_length a.ring (order_of b) (flipped (table a.ring (part b.index c.in-ok-from.from c.in-ok-from.to) (meanings a (part b.figures c.in-ok-from.from c.in-ok-from.to)))) = sym (flipped_length a.ring (order_of b) _ _ whole ∙ part_long b.index c.in-ok-from.from c.in-ok-from.to found.within) in
-    let same = ap flipped (place_table a b k c.in-ok-from.from c.in-ok-from.to found) in
-    let done = making_done a b sound (guard a b ++ (missing b (k ∷ []) ∷ (full (sheets_of b) ∷ []))) (flip_granted a b k sound found.there few) (flipped (sheet_table a b k)) _ same (c.in-ok-from.to - c.in-ok-from.from) size c.in-ok-check-room.ensures c.enter-sheet.new.header c.write-flipped.new.index c.write-flipped.new.figures c.write-flipped.ensures c.enter-sheet.ensures.words in
-    (done.0, (c.enter-sheet.ensures.number, done.1))
+    let few = few_from (sheets_of b) (sheets_few a b sound) c.in_ok-check_full.ensures in
+    let whole = place_sound a b k c.in_ok-from.from c.in_ok-from.to found in
+    let size : c.in_ok-from.to - c.in_ok-from.from ≡ packed_length a.ring (order_of b) (flipped (table a.ring (part b.index c.in_ok-from.from c.in_ok-from.to) (meanings a (part b.figures c.in_ok-from.from c.in_ok-from.to)))) = sym (flipped_length a.ring (order_of b) _ _ whole ∙ part_long b.index c.in_ok-from.from c.in_ok-from.to found.within) in
+    let same = ap flipped (place_table a b k c.in_ok-from.from c.in_ok-from.to found) in
+    let done = making_done a b sound (guard a b ++ (missing b (k ∷ []) ∷ (full (sheets_of b) ∷ []))) (flip_granted a b k sound found.there few) (flipped (sheet_table a b k)) _ same (c.in_ok-from.to - c.in_ok-from.from) size c.in_ok-check_room.ensures c.enter_sheet.new.header c.write_flipped.new.index c.write_flipped.new.figures c.write_flipped.ensures c.enter_sheet.ensures.words in
+    (done.0, (c.enter_sheet.ensures.number, done.1))
