@@ -21,7 +21,7 @@ pub use run::{carry_out, carry_out_all};
 // Two books of one order, each worked by any list of calls: both stay sound, and sheets of equal pedigree are equal.
 pub fn clerks_agree<F: Arithmetic>()
     ensures agree { TwoClerks F.Arithmetic.figures }
-    ensures turned { TurnsBack F-as-Arithmetic.figures.F }
+    ensures turned { TurnsBack F.Arithmetic.figures.F }
 {}
 
 // Two vectors carried through a line of sheets from either end come to one total.

@@ -126,7 +126,7 @@ pub fn line_totals<F: Arithmetic>(
     forward: &mut [F],
     spare: &mut [F],
 ) -> Result<(F, F), Refusal>
-    ensures { LineOutcome F.Arithmetic.figures (record { header = header.now; index = index.now; figures = figures.now }) line.now x.now y.now (record { back = back.entry.now; forward = forward.old; spare = spare.old }) result (record { back = back.exit.now; forward = forward.new; spare = spare.new }) }
+    ensures { LineOutcome F.Arithmetic.figures (record { header = header.now; index = index.now; figures = figures.now }) line.now x.now y.now (record { back = back.old; forward = forward.old; spare = spare.old }) result (record { back = back.new; forward = forward.new; spare = spare.new }) }
 {
     check_line(header, index, figures, line, x, y, back, forward, spare)?;
     carry_back(header, index, figures, line, x, back, spare)?;

@@ -7,7 +7,7 @@ pub loop-i-init : goal.loop-i-init
 loop-i-init g c = done
 
 pub loop-i-preserved : goal.loop-i-preserved
-loop-i-preserved g c = run_next g.F.Arithmetic.figures _ _ _ _ _ _ _ _ c.loop-i-test.true (omega arith) c.index-calls-i.is c.loop-i.invariant c.carry-out.ensures
+loop-i-preserved g c = run_next g.F.Arithmetic.figures _ _ _ _ _ _ _ _ c.loop-i-test.true (omega arith) c.index-calls-i.is c.loop-i.invariant c.carry_out.ensures
 
 pub returns : goal.returns
 returns g c = (omega arith, run_all g.F.Arithmetic.figures _ _ _ _ _ c.loop-i-test.false (omega arith) c.loop-i.invariant)
