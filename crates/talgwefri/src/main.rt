@@ -9,9 +9,7 @@ mod stop;
 mod table;
 
 use failure::Failure;
-
-// What `main` ends with where the input was bad or could not be read; the line on standard error has said why.
-struct Failed;
+use std::process::ExitCode;
 
 fn run(rt: &HostRuntime) -> Result<(), Failure> {
     let text = input::read(rt)?;
@@ -20,12 +18,12 @@ fn run(rt: &HostRuntime) -> Result<(), Failure> {
     Ok(())
 }
 
-fn main(rt: HostRuntime) -> Result<(), Failed> {
+fn main(rt: HostRuntime) -> ExitCode {
     match run(&rt) {
-        Ok(()) => Ok(()),
+        Ok(()) => ExitCode::SUCCESS,
         Err(why) => {
             let _ = eprintln!(rt; "talgwefri: {why}");
-            Err(Failed)
+            ExitCode::FAILURE
         }
     }
 }
