@@ -1,7 +1,7 @@
 -- What is written of a wait and of an amount. Assumes nothing.
-use Rattle.std.proofs.Common.{◌≡◌, ℕ, ◌≤◌, min, eqb, List, codes, decimal, refl, ap, ◌∙◌, arith}
+use Rattle.std.proofs.Common.{◌≡◌, ℕ, ◌≤◌, min, codes, decimal, refl, arith}
 use Rattle.std.proofs.lemmas.Bool.{ne_eqb}
-use Rattle.arithmetic.specs.Waits.{Delay, delay, longest, never, written}
+use Rattle.arithmetic.specs.Waits.{delay, longest, never, written}
 
 pub written_days : (n : ℕ) → n ≤ longest → written (delay n) ≡ decimal n
 written_days n low =

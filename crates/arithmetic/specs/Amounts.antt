@@ -1,8 +1,8 @@
 -- Amounts: whole numbers from 0 to a ceiling, with the ordinary sum and product, stopped at the ceiling.
-use Rattle.std.specs.Prelude.{◌≡◌, ℕ, zero, suc, ◌+◌, ◌*◌, ◌<◌, ◌≤◌, min, Bool, true, ◌↔◌, ◌==◌}
-use Rattle.std.proofs.Common.{sym, ap, ap₂, ◌∙◌, ⊎_elim, mul_comm, mul_assoc, mul-add, mul-le-mul_right, mul-zero, arith}
+use Rattle.std.specs.Prelude.{◌≡◌, ℕ, zero, suc, ◌+◌, ◌*◌, ◌<◌, ◌≤◌, min, true, ◌↔◌, ◌==◌}
+use Rattle.std.proofs.Common.{sym, ap, ap₂, ◌∙◌, ⊎_elim, mul_comm, mul_assoc, mul-le-mul_right, mul-zero, arith}
 use Rattle.std.proofs.lemmas.Bool.{cases_lt, eqb-true, eq-eqb}
-use Rattle.arithmetic.specs.Semiring.{Semiring, Figures, Commutes}
+use Rattle.arithmetic.specs.Semiring.{Semiring, Figures}
 use Rattle.arithmetic.specs.Capped.{Capped, capped, same_capped}
 use Rattle.arithmetic.specs.declared.amount.Amount.{Amount}
 

@@ -1,8 +1,8 @@
 -- Blocks of four figures in two rows, (p q; r s), over any semiring: added figure by figure, multiplied as tables of two rows and two columns are.
-use Rattle.std.specs.Prelude.{◌≡◌, Bool, true, false, ◌&&◌, ◌↔◌, refl}
+use Rattle.std.specs.Prelude.{◌≡◌, Bool, true, ◌&&◌, ◌↔◌}
 use Rattle.std.proofs.Common.{sym, ap, ap₂, ◌∙◌}
 use Rattle.std.proofs.lemmas.Bool.{and_parts, and_from}
-use Rattle.arithmetic.specs.Semiring.{Semiring, Figures, Commutes}
+use Rattle.arithmetic.specs.Semiring.{Semiring, Figures}
 use Rattle.arithmetic.specs.declared.block.Block.{Block}
 
 -- row one is p q, row two is r s

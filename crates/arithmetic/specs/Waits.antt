@@ -1,5 +1,5 @@
 -- Waits: whole days from 0 to the longest wait, or never. Add takes the shorter wait, multiply puts one wait after the other.
-use Rattle.std.specs.Prelude.{◌≡◌, ℕ, suc, ◌+◌, ◌≤◌, min, Bool, true, cond, ◌↔◌, List, codes, decimal, ◌==◌}
+use Rattle.std.specs.Prelude.{◌≡◌, ℕ, suc, ◌+◌, min, true, cond, ◌↔◌, List, codes, decimal, ◌==◌}
 use Rattle.std.proofs.Common.{ap, ◌∙◌, le_trans, arith}
 use Rattle.std.proofs.Math.Nat.{min-le_left}
 use Rattle.std.proofs.lemmas.Bool.{eqb-true, eq-eqb}

@@ -1,5 +1,5 @@
 -- A call that is sent back by a check that comes before its own.
-use Rattle.std.proofs.Common.{◌≡◌, ℕ, List, [], ◌∷◌, ◌++◌, IsErrAnd, Ok, Err, Result, sym, refl}
+use Rattle.std.proofs.Common.{◌≡◌, List, ◌++◌, IsErrAnd, Err, Result}
 use Rattle.std.proofs.lemmas.Result.{err_from_is_err_and}
 use Rattle.arithmetic.specs.Semiring.{Figures}
 use Rattle.sheet.specs.declared.refusal.Refusal.{Refusal}

@@ -1,13 +1,13 @@
 -- The last end of a book, and one more sheet after it.
-use Rattle.std.proofs.Common.{◌≡◌, ℕ, zero, suc, ◌+◌, ◌-◌, ◌<◌, ◌≤◌, List, ◌++◌, length, get_or, take, drop, set, sym, refl, ap, ◌∙◌, inl, inr, ⊎_elim, arith}
+use Rattle.std.proofs.Common.{◌≡◌, ℕ, zero, suc, ◌+◌, ◌<◌, ◌≤◌, List, ◌++◌, length, take, drop, set, sym, refl, ap, ◌∙◌, inl, inr, ⊎_elim, arith}
 use Rattle.std.proofs.lemmas.Bool.{cases_lt, cases_eq}
-use Rattle.arithmetic.specs.Semiring.{Figures, meanings}
+use Rattle.arithmetic.specs.Semiring.{Figures}
 use Rattle.matrix.specs.Tables.{Table}
 use Rattle.matrix.proofs.Meant.{length-meanings}
 use Rattle.sheet.specs.Packed.{packed_length, packed_index}
 use Rattle.sheet.specs.Writing.{Appended}
 use Rattle.sheet.proofs.Same.{index_long, figures_long_too}
-use Rattle.book.specs.Book.{Arrays, SoundBook, OneMore, order_of, sheets_of, capacity, start_of, last_end}
+use Rattle.book.specs.Book.{Arrays, OneMore, order_of, sheets_of, capacity, last_end}
 use Rattle.sheet.specs.declared.refusal.Refusal.TheVariants.{Lengths, Full, Room}
 use Rattle.book.specs.Lines.{Passes, list_lengths, full, room}
 use Rattle.book.specs.Checked.{Headed}

@@ -1,9 +1,9 @@
 -- What the calls that look things up answer, once their sheet was found.
-use Rattle.std.proofs.Common.{◌≡◌, ℕ, ◌+◌, ◌<◌, List, [], ◌∷◌, ◌++◌, get_or, Ok, refl, ◌∙◌, arith}
+use Rattle.std.proofs.Common.{◌≡◌, ℕ, ◌+◌, ◌<◌, [], ◌∷◌, get_or, Ok, refl, ◌∙◌, arith}
 use Rattle.arithmetic.specs.Semiring.{Figures, meanings}
 use Rattle.sheet.specs.Packed.{table}
 use Rattle.sheet.specs.Writing.{part}
-use Rattle.book.specs.Book.{Arrays, SoundBook, order_of, sheets_of, sheet_table}
+use Rattle.book.specs.Book.{Arrays, SoundBook, order_of, sheets_of}
 use Rattle.book.specs.Lines.{Granted, guard, missing, outside, outside_row}
 use Rattle.book.specs.Checked.{SheetLies}
 use Rattle.book.specs.Lookups.{row_from, row_to, row_lines, cell_lines, CellIs, RowIs, Between}

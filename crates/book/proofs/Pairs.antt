@@ -1,10 +1,8 @@
 -- Two sheets of a sound book, at their places.
-use Rattle.std.proofs.Common.{◌≡◌, ℕ, ◌<◌, ◌≤◌, List, [], ◌∷◌, ◌++◌, length, sym, ap₂, arith}
+use Rattle.std.proofs.Common.{◌≡◌, ℕ, ◌<◌, ◌≤◌, [], ◌∷◌, ◌++◌, ap₂, arith}
 use Rattle.arithmetic.specs.Semiring.{Figures, meanings}
-use Rattle.matrix.specs.Tables.{Table}
 use Rattle.sheet.specs.Packed.{table}
 use Rattle.sheet.specs.Writing.{part}
-use Rattle.sheet.specs.declared.refusal.Refusal.TheVariants.{Full}
 use Rattle.book.specs.Book.{Arrays, SoundBook, sheets_of, last_end, sheet_table}
 use Rattle.book.specs.Lines.{Granted, Passes, guard, pair_guard, missing, full}
 use Rattle.book.specs.Checked.{SheetLies}

@@ -1,10 +1,10 @@
 -- Lines of the table of refusals that do not apply, and lists of lines.
-use Rattle.std.proofs.Common.{◌≡◌, ℕ, ◌+◌, ◌<◌, ◌≤◌, ◌⊎◌, List, [], ◌∷◌, ◌++◌, length, get_or, sym, ◌∙◌, inl, inr, ⊎_elim, arith}
+use Rattle.std.proofs.Common.{◌≡◌, ℕ, ◌<◌, List, [], ◌∷◌, ◌++◌, length, inl, inr, ⊎_elim, arith}
 use Rattle.arithmetic.specs.Semiring.{Figures}
 use Rattle.sheet.specs.Packed.{FirstBreak}
 use Rattle.sheet.specs.declared.refusal.Refusal.{Refusal}
-use Rattle.book.specs.Book.{Arrays, SoundBook, order_of, sheets_of, last_end}
-use Rattle.book.specs.Lines.{Line, Passes, Granted, SentBack, layout, header, missing, outside, outside_row, vector_lengths, position, guard}
+use Rattle.book.specs.Book.{Arrays, SoundBook, order_of, sheets_of}
+use Rattle.book.specs.Lines.{Line, Passes, Granted, SentBack, layout, header, missing, outside, outside_row, vector_lengths, guard}
 use Rattle.book.specs.Checked.{Laid, Headed}
 
 pub sent_on : (ls ms : List Line) (why : Refusal) → SentBack ls why → SentBack (ls ++ ms) why

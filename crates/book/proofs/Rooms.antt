@@ -1,5 +1,5 @@
 -- A call that makes a new sheet: its room, and what it leaves.
-use Rattle.std.proofs.Common.{◌≡◌, ℕ, ◌+◌, ◌-◌, ◌≤◌, List, [], ◌∷◌, ◌++◌, length, set, IsErrAnd, Err, Result, sym, ap, ◌∙◌, subst, inl, arith}
+use Rattle.std.proofs.Common.{◌≡◌, ℕ, ◌+◌, ◌-◌, ◌≤◌, List, [], ◌∷◌, ◌++◌, set, IsErrAnd, Err, Result, sym, ap, ◌∙◌, subst, inl, arith}
 use Rattle.arithmetic.specs.Semiring.{Figures}
 use Rattle.matrix.specs.Tables.{Table}
 use Rattle.sheet.specs.Packed.{packed_length}

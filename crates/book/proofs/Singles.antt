@@ -2,7 +2,6 @@
 use Rattle.std.proofs.Common.{◌≡◌, ℕ, ◌<◌, List, [], ◌∷◌, sym, ap, ◌∙◌, inl, inr, ⊎_elim, arith}
 use Rattle.std.proofs.lemmas.Bool.{cases_order}
 use Rattle.arithmetic.specs.Semiring.{Figures}
-use Rattle.matrix.specs.Tables.{Table}
 use Rattle.sheet.specs.Packed.{FirstBreak}
 use Rattle.sheet.specs.declared.refusal.Refusal.{Refusal}
 use Rattle.book.specs.Book.{Arrays, sheets_of}

@@ -1,5 +1,5 @@
 -- The table of refusals: its lines, and what it means that a call is sent back or granted.
-use Rattle.std.specs.Prelude.{◌≡◌, ℕ, ◌+◌, ◌-◌, ◌<◌, ◌≤◌, ◌⊎◌, List, [], ◌∷◌, ◌++◌, length, ◌≢◌}
+use Rattle.std.specs.Prelude.{◌≡◌, ℕ, ◌<◌, ◌≤◌, ◌⊎◌, List, [], ◌∷◌, ◌++◌, length, ◌≢◌}
 use Rattle.arithmetic.specs.Semiring.{Figures}
 use Rattle.sheet.specs.Packed.{FirstBreak}
 use Rattle.sheet.specs.Loading.{Placed}

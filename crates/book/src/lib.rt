@@ -1,4 +1,6 @@
 // The calls on a book that lies in three given arrays.
+#![tactic(auto)]
+
 mod adding;
 mod check;
 mod flipping;

@@ -1,4 +1,6 @@
 // Two clerks with a book each: what their sheets can never be brought away from, whatever calls they make.
+#![tactic(auto)]
+
 ghost use Rattle.clerks.specs.Pedigree.{TurnsBack};
 ghost use Rattle.clerks.specs.Clerks.{TwoClerks};
 ghost use Rattle.clerks.specs.Carrying.{OneTotal};

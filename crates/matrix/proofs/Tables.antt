@@ -1,5 +1,5 @@
 -- The laws of sums and of products of tables.
-use Rattle.std.proofs.Common.{◌≡◌, ℕ, zero, suc, ◌+◌, ◌<◌, true, false, cond, eqb, sym, refl, ap, ◌∙◌, ap₂, arith}
+use Rattle.std.proofs.Common.{◌≡◌, ℕ, zero, suc, ◌<◌, sym, refl, ap, ◌∙◌}
 use Rattle.std.proofs.lemmas.Bool.{eq-eqb, ne_eqb}
 use Rattle.arithmetic.specs.Semiring.{Semiring, Commutes}
 use Rattle.matrix.specs.Tables.{Table, sum, product, added, flipped, unit_table}

@@ -1,8 +1,6 @@
 -- Vectors and tables, weighed from either side.
-use Rattle.std.proofs.Common.{◌≡◌, ℕ, sym, ap, ◌∙◌}
+use Rattle.std.proofs.Common.{sym, ◌∙◌}
 use Rattle.arithmetic.specs.Semiring.{Semiring}
-use Rattle.matrix.specs.Tables.{Table, sum}
-use Rattle.matrix.specs.Vectors.{Vector, column_worked, row_worked}
 use Rattle.matrix.specs.Laws.{OneTotal}
 use Rattle.matrix.proofs.Sums.{sum_same}
 use Rattle.matrix.proofs.Tables.{mul-sum, sum-mul, sum_swap}

@@ -1,5 +1,7 @@
 // Square tables and vectors over any arithmetic: no code, and the laws that everything above rests on.
 // Each function stands for one law; it does nothing, and its contract is the law.
+#![tactic(auto)]
+
 ghost use Rattle.arithmetic.specs.Semiring.{Commutes};
 ghost use Rattle.matrix.specs.Laws.{SumsSplit, SumsSwap, SumsDistribute, ProductsAssociate, UnitTable, ProductsDistribute, ProductsFlip, OneTotal, BagsTotal};
 

@@ -1,12 +1,12 @@
 -- The lists of a row of a product, one stored cell of the first sheet after another.
-use Rattle.std.proofs.Common.{◌≡◌, ℕ, zero, suc, ◌+◌, ◌-◌, ◌<◌, ◌≤◌, min, Bool, true, false, cond, eqb, ltb, leb, ◌⊎◌, List, length, get_or, set, sym, refl, ap, ◌∙◌, subst, ap₂, ⊎_elim, add-one, arith}
+use Rattle.std.proofs.Common.{◌≡◌, ℕ, zero, suc, ◌+◌, ◌-◌, ◌<◌, ◌≤◌, cond, eqb, List, length, get_or, sym, refl, ap, ◌∙◌, subst, ap₂, ⊎_elim, arith}
 use Rattle.std.proofs.lemmas.Bool.{cases_lt, cases_eq, eq-eqb, ne_eqb, le-leb, lt-leb, lt-ltb, le-ltb}
 use Rattle.arithmetic.specs.Semiring.{Semiring}
-use Rattle.matrix.specs.Tables.{Table, sum, product}
+use Rattle.matrix.specs.Tables.{sum, product}
 use Rattle.matrix.proofs.Sums.{add-zero, sum_more}
 use Rattle.sheet.specs.Packed.{Sound, found, table}
 use Rattle.sheet.specs.Cursors.{spot_of, column_of}
-use Rattle.sheet.proofs.Found.{sound_rises, row_past, row_within, cell_at, columns_rise, off_diagonal, table_here, table_off}
+use Rattle.sheet.proofs.Found.{sound_rises, row_within, cell_at, columns_rise, off_diagonal, table_here, table_off}
 use Rattle.sheet.proofs.Cursors.{Cursor, cursor_none, cursor_step, cursor_skip, cursor_gap, spot_figure, spot_within}
 use Rattle.product.specs.declared.meetings.Meetings.{Meetings}
 use Rattle.product.specs.Meetings.{meeting, pushed, cleared, Idle, Lists, next_stored_of}

@@ -1,15 +1,12 @@
 -- What a meeting does to the lists of a row.
-use Rattle.std.proofs.Common.{◌≡◌, ℕ, zero, suc, ◌+◌, ◌-◌, ◌/◌, ◌%◌, ◌^◌, ◌<◌, ◌≤◌, Bool, true, false, cond, eqb, List, length, get_or, set, sym, refl, ap, ◌∙◌, subst, ap₂, ⊎_elim, add-one, arith}
+use Rattle.std.proofs.Common.{◌≡◌, ℕ, zero, suc, ◌+◌, ◌/◌, ◌<◌, ◌≤◌, cond, eqb, List, length, get_or, set, sym, refl, ap, ◌∙◌, subst, ap₂, ⊎_elim, arith}
 use Rattle.std.proofs.lemmas.List.{get_or-set_same, get_or-set_other, length-set}
-use Rattle.std.proofs.lemmas.Bool.{cases_lt, cases_eq, eq-eqb, ne_eqb}
+use Rattle.std.proofs.lemmas.Bool.{cases_eq, eq-eqb, ne_eqb}
 use Rattle.arithmetic.specs.Semiring.{Semiring}
-use Rattle.matrix.specs.Tables.{Table, sum, product}
-use Rattle.matrix.proofs.Sums.{add-zero, sum_more}
-use Rattle.sheet.specs.Packed.{Sound, found, table}
-use Rattle.sheet.specs.Cursors.{spot_of, column_of}
-use Rattle.sheet.proofs.Found.{sound_rises, row_past, row_within, cell_at, columns_rise, not_found, off_diagonal, table_here, table_off}
+use Rattle.sheet.specs.Packed.{found}
+use Rattle.sheet.proofs.Found.{not_found}
 use Rattle.product.specs.declared.meetings.Meetings.{Meetings}
-use Rattle.product.specs.Meetings.{meeting, pushed, cleared, Shaped, Idle, Linked, Marked, Absent, list_sum, Lists}
+use Rattle.product.specs.Meetings.{meeting, pushed, cleared, Shaped, Idle, Linked, list_sum, Lists}
 use Rattle.product.proofs.Chains.{list_more, list_stays, zeros_at}
 use Rattle.product.proofs.Touched.{absent_after, narrow_after}
 

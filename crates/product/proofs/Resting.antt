@@ -1,15 +1,15 @@
 -- The lists of a row that are left while its cells are taken one by one.
-use Rattle.std.proofs.Common.{◌≡◌, ℕ, zero, suc, ◌+◌, ◌-◌, ◌<◌, ◌≤◌, Bool, true, false, cond, not, ◌&&◌, eqb, List, length, get_or, set, Some, None, sym, refl, ap, ◌∙◌, ⊎_elim, arith}
+use Rattle.std.proofs.Common.{◌≡◌, ℕ, ◌+◌, ◌<◌, ◌≤◌, true, false, cond, not, ◌&&◌, eqb, List, length, get_or, set, Some, None, sym, ap, ◌∙◌, ⊎_elim, arith}
 use Rattle.std.proofs.lemmas.List.{get_or-set_same, get_or-set_other, length-set, length_push}
 use Rattle.std.proofs.lemmas.Bool.{cases_lt, cases_eq, cases_Bool}
 use Rattle.arithmetic.specs.Semiring.{Semiring, Figures, meanings}
 use Rattle.matrix.specs.Tables.{Table}
-use Rattle.sheet.specs.Packed.{stored, columns_below, row_columns}
+use Rattle.sheet.specs.Packed.{stored, columns_below}
 use Rattle.sheet.proofs.Columns.{columns_yes, columns_no}
 use Rattle.sheet.proofs.Lists.{columns_quiet}
 use Rattle.product.specs.declared.meetings.Meetings.{Meetings}
 use Rattle.product.specs.declared.meetings.RowCell.{RowCell}
-use Rattle.product.specs.Meetings.{taken, Shaped, Idle, Linked, Marked, list_sum, Lists, NextCell}
+use Rattle.product.specs.Meetings.{taken, Idle, Linked, Marked, list_sum, Lists, NextCell}
 
 -- the lists of the columns from `from` on add up to v, and those before are taken
 pub record Rest {F : Type 0} (s : Semiring F) (fs gs : List F) (n : ℕ) (v : ℕ → F) (from : ℕ) (m : Meetings) : Type 0 where

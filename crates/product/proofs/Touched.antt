@@ -1,7 +1,7 @@
 -- Bits of words, and the columns that they stand for.
-use Rattle.std.proofs.Common.{◌≡◌, ℕ, zero, suc, ◌+◌, ◌-◌, ◌*◌, ◌/◌, ◌%◌, ◌^◌, ◌<◌, ◌≤◌, List, length, get_or, set, sym, refl, ap, ◌∙◌, ap₂, ⊎_elim, pow-suc, div-one, arith}
-use native.Mathlib.Nat.{zero-div, zero-mod, pow-succ', div-div-eq-div-mul}
-use lib.Bits.{bit_or, bit_and, or_add_and}
+use Rattle.std.proofs.Common.{◌≡◌, ℕ, zero, suc, ◌+◌, ◌-◌, ◌/◌, ◌%◌, ◌^◌, ◌<◌, ◌≤◌, List, length, get_or, set, sym, refl, ap, ◌∙◌, ⊎_elim, pow-suc, div-one, arith}
+use native.Mathlib.Nat.{zero-div, pow-succ', div-div-eq-div-mul}
+use lib.Bits.{bit_or, or_add_and}
 use lib.Count.{count_trailing_zeros, under}
 use Rattle.std.proofs.lemmas.Nat.{shr-shr, shl-shr, shr_below, or_shr, or_mod, or_lt, pow_below, and_le_l, and_le_r}
 use Rattle.std.proofs.lemmas.List.{get_or-set_same, get_or-set_other}

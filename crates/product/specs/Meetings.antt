@@ -1,5 +1,5 @@
 -- The pairs of stored cells that meet in one row of a product, a list for each column: numbers only.
-use Rattle.std.specs.Prelude.{◌≡◌, ℕ, zero, suc, ◌+◌, ◌/◌, ◌%◌, ◌^◌, ◌<◌, ◌≤◌, min, cond, List, length, set, replicate, Some, None, Option, bit_or, nat_le, slice_index, slice_index_or, slice_set}
+use Rattle.std.specs.Prelude.{◌≡◌, ℕ, zero, suc, ◌+◌, ◌/◌, ◌%◌, ◌^◌, ◌<◌, ◌≤◌, min, cond, List, length, replicate, Some, None, Option, bit_or, nat_le, slice_index, slice_index_or, slice_set}
 use Rattle.arithmetic.specs.Semiring.{Semiring, Figures, meanings}
 use Rattle.matrix.specs.Tables.{Table, product}
 use Rattle.sheet.specs.Packed.{table}

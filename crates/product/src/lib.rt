@@ -1,4 +1,6 @@
 // The product of two sheets, row by row.
+#![tactic(auto)]
+
 mod meetings;
 mod multiplying;
 

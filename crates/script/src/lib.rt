@@ -1,4 +1,6 @@
 // Scripts: the parts of one, each with an arithmetic, and the commands of a part, read from text.
+#![tactic(auto)]
+
 mod command;
 mod fault;
 mod lines;

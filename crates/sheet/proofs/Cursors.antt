@@ -1,8 +1,8 @@
 -- A cursor that goes along a row while the column counts up.
-use Rattle.std.proofs.Common.{◌≡◌, ℕ, zero, suc, ◌+◌, ◌-◌, ◌<◌, ◌≤◌, Bool, true, false, cond, ◌&&◌, eqb, ltb, ◌⊎◌, List, length, get_or, sym, refl, ap, ◌∙◌, inl, inr, ⊎_elim, arith}
+use Rattle.std.proofs.Common.{◌≡◌, ℕ, ◌+◌, ◌-◌, ◌<◌, ◌≤◌, cond, eqb, ◌⊎◌, List, length, get_or, sym, refl, ap, ◌∙◌, inl, inr, ⊎_elim, arith}
 use Rattle.std.proofs.lemmas.Bool.{cases_lt, cases_eq, eq-eqb, ne_eqb, lt-ltb, le-ltb}
 use Rattle.arithmetic.specs.Semiring.{Semiring}
-use Rattle.sheet.specs.Packed.{Sound, found, table}
+use Rattle.sheet.specs.Packed.{Sound, table}
 use Rattle.sheet.proofs.Unique.{found_first}
 use Rattle.sheet.proofs.Found.{sound_rises, row_past, row_within, cell_at, columns_rise, not_found, table_here, table_off}
 use Rattle.sheet.specs.Cursors.{spot_of, column_of}

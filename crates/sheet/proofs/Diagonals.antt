@@ -1,13 +1,12 @@
 -- The unit table, packed and written.
-use Rattle.std.proofs.Common.{◌≡◌, ℕ, zero, suc, ◌+◌, ◌<◌, ◌≤◌, Bool, true, false, cond, not, ◌&&◌, eqb, ◌⊎◌, List, [], ◌∷◌, length, set, sym, refl, ap, ◌∙◌, subst, ⊎_elim, add-one, arith}
+use Rattle.std.proofs.Common.{◌≡◌, ℕ, zero, suc, ◌+◌, ◌<◌, ◌≤◌, false, ◌⊎◌, List, [], length, set, sym, refl, ap, ◌∙◌, subst, ⊎_elim, add-one, arith}
 use Rattle.std.proofs.lemmas.Bool.{cases_eq, eq-eqb, ne_eqb}
 use Rattle.arithmetic.specs.Semiring.{Semiring, Figures}
-use Rattle.matrix.specs.Tables.{Table, unit_table}
+use Rattle.matrix.specs.Tables.{unit_table}
 use Rattle.sheet.specs.Packed.{stored, columns_below, row_start, packed_length}
 use Rattle.sheet.specs.Writing.{Appended}
 use Rattle.sheet.proofs.Columns.{zero_not_stored, columns_no}
 use Rattle.sheet.proofs.Laying.{Laying, laying_none, laying_corner, laying_row, laying_skip, laying_all}
-use Rattle.sheet.proofs.Loads.{appended_over}
 
 module _ {F : Type 0} (s : Semiring F) where
   off_diagonal : (r c : ℕ) → (r ≡ c → ⊥) → unit_table s r c ≡ s.zero

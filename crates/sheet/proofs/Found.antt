@@ -1,11 +1,11 @@
 -- The stored cells of a row of a sound sheet, and the sum over a row.
-use Rattle.std.proofs.Common.{◌≡◌, ℕ, zero, suc, ◌+◌, ◌-◌, ◌<◌, ◌≤◌, Bool, true, false, cond, eqb, List, length, get_or, sym, refl, ap, ◌∙◌, ⊎_elim, arith}
-use Rattle.std.proofs.lemmas.Bool.{cases_lt, cases_eq, eq-eqb, ne_eqb, cond-true, cond-false}
+use Rattle.std.proofs.Common.{◌≡◌, ℕ, zero, suc, ◌+◌, ◌-◌, ◌<◌, ◌≤◌, List, length, get_or, sym, refl, ap, ◌∙◌, ⊎_elim, arith}
+use Rattle.std.proofs.lemmas.Bool.{cases_lt, eq-eqb, ne_eqb}
 use Rattle.arithmetic.specs.Semiring.{Semiring}
 use Rattle.matrix.specs.Tables.{sum}
 use Rattle.matrix.specs.Vectors.{column_worked}
 use Rattle.matrix.proofs.Sums.{add-zero, sum-zero, sum_change}
-use Rattle.sheet.specs.Packed.{Rule, Head, Cell, Rising, Sound, found, table}
+use Rattle.sheet.specs.Packed.{Rising, Sound, found, table}
 use Rattle.sheet.proofs.Rows.{heads_rise, same_row}
 
 module _ {F : Type 0} (s : Semiring F) (n : ℕ) (ws : List ℕ) (fs : List F) (sound : Sound s n ws fs) where

@@ -1,6 +1,6 @@
 -- A sheet that is being written: the starts of some rows, what was there, the cells of those rows, and the rest.
-use Rattle.std.proofs.Common.{◌≡◌, ℕ, zero, suc, ◌+◌, ◌-◌, ◌<◌, ◌≤◌, min, List, [], ◌∷◌, ◌++◌, map, length, get_or, take, drop, set, sym, refl, ap, ◌∙◌, ap₂, arith, rules}
-use Rattle.std.proofs.lemmas.List.{places, same_lists, get_or-set_same, length-append, length-take, length-drop, length-set, take-set, drop-set-lt}
+use Rattle.std.proofs.Common.{◌≡◌, ℕ, ◌+◌, ◌-◌, ◌<◌, ◌≤◌, List, [], ◌∷◌, ◌++◌, length, take, drop, set, ap₂, arith, rules}
+use Rattle.std.proofs.lemmas.List.{places, same_lists, get_or-set_same, take-set, drop-set-lt}
 use Rattle.std.proofs.lemmas.Bool.{cases_eq}
 use Rattle.sheet.specs.Writing.{part, placed}
 

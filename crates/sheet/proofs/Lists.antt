@@ -1,13 +1,13 @@
 -- Lists of entries in order, and the tables that they stand for.
-use Rattle.std.proofs.Common.{◌≡◌, ℕ, zero, suc, ◌+◌, ◌-◌, ◌*◌, ◌<◌, ◌≤◌, Bool, true, false, cond, not, ◌&&◌, eqb, ◌⊎◌, List, [], ◌∷◌, ◌++◌, length, get_or, sym, refl, ap, ◌∙◌, subst, ap₂, inl, inr, ⊎_elim, add-one, arith}
+use Rattle.std.proofs.Common.{◌≡◌, ℕ, zero, suc, ◌+◌, ◌-◌, ◌*◌, ◌<◌, ◌≤◌, Bool, true, false, cond, not, ◌&&◌, eqb, ◌⊎◌, List, [], ◌∷◌, ◌++◌, length, get_or, sym, refl, ap, ◌∙◌, subst, inl, inr, ⊎_elim, add-one, arith}
 use Rattle.std.proofs.lemmas.List.{length-append, length_push}
 use Rattle.std.proofs.lemmas.Bool.{cases_lt, cases_eq, eq-eqb, ne_eqb}
 use Rattle.arithmetic.specs.Semiring.{Semiring, Figures, meanings}
 use Rattle.matrix.specs.Tables.{Table}
 use Rattle.matrix.proofs.Sums.{add-zero}
 use Rattle.matrix.proofs.Meant.{read_means}
-use Rattle.sheet.specs.Packed.{stored, columns_below, row_columns, row_start, packed_length}
-use Rattle.sheet.specs.Loading.{Entry, entries, loaded, Placed}
+use Rattle.sheet.specs.Packed.{stored, columns_below, row_start, packed_length}
+use Rattle.sheet.specs.Loading.{entries, loaded, Placed}
 use Rattle.sheet.proofs.Columns.{zero_not_stored, columns_yes, columns_no}
 use Rattle.sheet.proofs.Laying.{spot, spot_row}
 

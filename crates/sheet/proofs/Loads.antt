@@ -1,10 +1,10 @@
 -- A list that is written entry by entry.
-use Rattle.std.proofs.Common.{◌≡◌, ℕ, zero, suc, ◌+◌, ◌-◌, ◌<◌, ◌≤◌, Bool, true, false, cond, not, ◌&&◌, eqb, ◌⊎◌, List, [], ◌∷◌, length, get_or, set, sym, refl, ap, ◌∙◌, subst, inl, inr, ⊎_elim, arith}
-use Rattle.std.proofs.lemmas.Bool.{cases_lt, cases_eq, cases_Bool, ne_eqb}
-use Rattle.arithmetic.specs.Semiring.{Semiring, Figures, meanings}
+use Rattle.std.proofs.Common.{◌≡◌, ℕ, ◌+◌, ◌<◌, ◌≤◌, List, length, get_or, set, sym, refl, ap, ◌∙◌, subst, inl, inr, ⊎_elim, arith}
+use Rattle.std.proofs.lemmas.Bool.{cases_lt}
+use Rattle.arithmetic.specs.Semiring.{Figures}
 use Rattle.matrix.specs.Tables.{Table}
 use Rattle.matrix.proofs.Meant.{read_means, length-meanings}
-use Rattle.sheet.specs.Packed.{stored, packed_length, packed_index}
+use Rattle.sheet.specs.Packed.{packed_length, packed_index}
 use Rattle.sheet.specs.Loading.{Placed}
 use Rattle.sheet.specs.Writing.{Appended, EntryWritten}
 use Rattle.sheet.proofs.Halves.{placed_over}

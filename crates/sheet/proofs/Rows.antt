@@ -1,8 +1,8 @@
 -- The rows of a sheet, by their starts.
-use Rattle.std.proofs.Common.{◌≡◌, ℕ, zero, suc, ◌+◌, ◌-◌, ◌<◌, ◌≤◌, Bool, true, false, not, List, length, get_or, sym, refl, ap, ◌∙◌, ⊎_elim, arith}
+use Rattle.std.proofs.Common.{◌≡◌, ℕ, zero, suc, ◌+◌, ◌-◌, ◌<◌, ◌≤◌, List, length, get_or, refl, ⊎_elim, arith}
 use Rattle.std.proofs.lemmas.Bool.{cases_lt, cases_order}
 use Rattle.arithmetic.specs.Semiring.{Semiring}
-use Rattle.sheet.specs.Packed.{Rule, Head, Cell, Rising}
+use Rattle.sheet.specs.Packed.{Rule, Rising}
 
 pub rising : (n : ℕ) (ws : List ℕ) → ((p : ℕ) → 0 < p → p ≤ n → get_or ws (p - 1) 0 ≤ get_or ws p 0) → Rising n ws
 rising n ws up i zero low high = let e : i ≡ 0 = omega arith in rw e (omega arith)

@@ -1,11 +1,11 @@
 -- Tables that agree cell by cell have one packed form.
-use Rattle.std.proofs.Common.{◌≡◌, ℕ, zero, suc, ◌+◌, ◌<◌, ◌≤◌, Bool, cond, not, ◌&&◌, eqb, List, [], ◌∷◌, ◌++◌, map, length, get_or, sym, refl, ap, ◌∙◌, ap₂, arith}
+use Rattle.std.proofs.Common.{◌≡◌, ℕ, zero, suc, ◌+◌, ◌<◌, ◌≤◌, cond, not, ◌&&◌, eqb, List, [], ◌∷◌, ◌++◌, map, length, get_or, sym, refl, ap, ◌∙◌, ap₂, arith}
 use Rattle.std.specs.List.{range_with_len}
 use Rattle.std.proofs.lemmas.List.{same_lists, length-append}
 use Rattle.std.proofs.lemmas.List.FromFn.{length-map-range_with_len, get_or-map-range_with_len}
 use Rattle.arithmetic.specs.Semiring.{Semiring}
 use Rattle.matrix.specs.Tables.{Table, Same}
-use Rattle.sheet.specs.Packed.{joined_over, stored, columns_below, row_columns, row_start, packed_length, packed_index, packed_figures}
+use Rattle.sheet.specs.Packed.{joined_over, columns_below, row_columns, row_start, packed_length, packed_index, packed_figures}
 use Rattle.sheet.proofs.Columns.{columns_below_n}
 use Rattle.sheet.proofs.Packs.{row_start_is, figures_long}
 

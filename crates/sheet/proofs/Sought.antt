@@ -1,5 +1,5 @@
 -- A walk along a row in search of a column.
-use Rattle.std.proofs.Common.{◌≡◌, ℕ, ◌+◌, ◌-◌, ◌<◌, ◌≤◌, List, length, get_or, sym, refl, ap, ◌∙◌, arith}
+use Rattle.std.proofs.Common.{◌≡◌, ℕ, ◌+◌, ◌-◌, ◌<◌, ◌≤◌, List, length, get_or, sym, ap, ◌∙◌, arith}
 use Rattle.arithmetic.specs.Semiring.{Semiring}
 use Rattle.sheet.specs.Packed.{Sound, found, table}
 use Rattle.sheet.proofs.Found.{row_within, found_here, found_past, found_none, table_off}

@@ -1,5 +1,5 @@
 -- Where a row and a block are cut: the marks between figures are no digits, so the first mark is the right one.
-use Rattle.std.proofs.Common.{◌≡◌, ℕ, zero, suc, ◌-◌, ◌<◌, List, ◌∷◌, ◌++◌, length, get_or, Some, None, Option, sym, ap, ◌∙◌, subst, ⊎_elim, arith, length-append, Bor, MatchOption}
+use Rattle.std.proofs.Common.{◌≡◌, ℕ, zero, suc, ◌-◌, ◌<◌, List, ◌∷◌, ◌++◌, length, get_or, Some, None, Option, sym, ◌∙◌, subst, ⊎_elim, arith, length-append, Bor, MatchOption}
 use Rattle.std.specs.Str.Parse.{AllDigits}
 use Rattle.std.specs.Int.{IsInRange}
 use Rattle.std.proofs.lemmas.List.{get_or_append_left, get_or-append_right}

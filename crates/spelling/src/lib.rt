@@ -1,4 +1,6 @@
 // Figures as they are written in a script, one word each.
+#![tactic(auto)]
+
 ghost use Rattle.std.specs.Prelude.{ℕ, List};
 ghost use Rattle.spelling.specs.Spelling.{Reads, Writes, SpellsAmount, SpellsYesNo, SpellsWait, SpellsRow, SpellsBlock};
 

@@ -1,5 +1,7 @@
 // A pension-book program: it reads a script of calls on a book, makes them in order, and prints a record
 // of what each call answered.
+#![tactic(auto)]
+
 mod answer;
 mod books;
 mod failure;

@@ -1,11 +1,11 @@
 -- How often a column stands among the places of a sheet.
-use Rattle.std.proofs.Common.{◌≡◌, ℕ, zero, suc, ◌+◌, ◌-◌, ◌<◌, ◌≤◌, Bool, true, false, cond, not, ◌&&◌, eqb, ◌⊎◌, List, [], ◌∷◌, ◌++◌, length, get_or, set, sym, refl, ap, ◌∙◌, subst, ap₂, inl, inr, ⊎_elim, add-one, arith}
-use Rattle.std.proofs.lemmas.List.{get_or-set_same, get_or-set_other, length-set, length_push}
-use Rattle.std.proofs.lemmas.Bool.{cases_lt, cases_eq, cases_Bool, eq-eqb, ne_eqb, eqb-true, eqb-false}
+use Rattle.std.proofs.Common.{◌≡◌, ℕ, zero, suc, ◌+◌, ◌-◌, ◌<◌, ◌≤◌, Bool, true, false, cond, not, ◌&&◌, eqb, ◌⊎◌, List, length, get_or, set, sym, refl, ap, ◌∙◌, subst, ap₂, inl, inr, ⊎_elim, add-one, arith}
+use Rattle.std.proofs.lemmas.List.{get_or-set_same, get_or-set_other, length_push}
+use Rattle.std.proofs.lemmas.Bool.{cases_lt, cases_eq, cases_Bool, eq-eqb, ne_eqb}
 use Rattle.arithmetic.specs.Semiring.{Semiring}
-use Rattle.matrix.specs.Tables.{Table, flipped}
+use Rattle.matrix.specs.Tables.{flipped}
 use Rattle.sheet.specs.Packed.{Sound, stored, columns_below, row_columns, row_start, packed_length, table}
-use Rattle.sheet.proofs.Found.{sound_rises, row_past, row_within, cell_at, columns_rise, not_found, table_off}
+use Rattle.sheet.proofs.Found.{sound_rises, row_past, columns_rise}
 use Rattle.sheet.proofs.Columns.{columns_yes, columns_no}
 use Rattle.sheet.proofs.Unique.{cell_stored, none_stored}
 use Rattle.transpose.specs.Flipping.{hits}

@@ -1,22 +1,19 @@
 -- The cells of a sheet, each moved to the next free place of its column.
-use Rattle.std.proofs.Common.{◌≡◌, ℕ, zero, suc, ◌+◌, ◌-◌, ◌<◌, ◌≤◌, true, false, cond, eqb, ◌⊎◌, List, map, length, get_or, take, drop, set, sym, refl, ap, ◌∙◌, subst, ap₂, inl, inr, ⊎_elim, add-one, arith}
-use Rattle.std.proofs.lemmas.List.{get_or-set_same, get_or-set_other, length-set, length-map, get_or-map, same_lists, ext_get_or}
-use Rattle.std.proofs.lemmas.Bool.{cases_lt, cases_eq, cases_order, eq-eqb, ne_eqb}
-use Rattle.arithmetic.specs.Semiring.{Semiring, Figures, meanings}
-use Rattle.matrix.specs.Tables.{Table, flipped}
+use Rattle.std.proofs.Common.{◌≡◌, ℕ, ◌+◌, ◌-◌, ◌<◌, ◌≤◌, true, List, length, get_or, set, sym, refl, ap, ◌∙◌, subst, inl, inr, ⊎_elim, add-one, arith}
+use Rattle.std.proofs.lemmas.List.{get_or-set_same, get_or-set_other, length-set, same_lists, ext_get_or}
+use Rattle.std.proofs.lemmas.Bool.{cases_lt, cases_eq, cases_order}
+use Rattle.arithmetic.specs.Semiring.{Figures, meanings}
+use Rattle.matrix.specs.Tables.{Table}
 use Rattle.matrix.proofs.Meant.{length-meanings, meanings_set}
-use Rattle.sheet.specs.Packed.{Sound, stored, columns_below, row_columns, row_start, packed_length, packed_index, packed_figures, table}
+use Rattle.sheet.specs.Packed.{stored, columns_below, row_columns, row_start, packed_length, packed_index, packed_figures}
 use Rattle.sheet.specs.Writing.{part, placed, Appended}
 use Rattle.sheet.proofs.Columns.{columns_at, columns_room}
-use Rattle.sheet.proofs.Found.{sound_rises, row_past, row_within, cell_at}
 use Rattle.sheet.proofs.Laying.{starts_grow}
 use Rattle.sheet.proofs.Packs.{start_at, diagonal_at, column_of, figure_of}
 use Rattle.sheet.proofs.Same.{index_long, figures_long_too}
 use Rattle.sheet.proofs.Sounds.{packed_sound, row_of}
-use Rattle.sheet.proofs.Unique.{cell_figure, cell_stored}
-use Rattle.transpose.specs.Flipping.{hits, Outside, HeadLaid}
-use Rattle.transpose.proofs.Hits.{hits_more, hits_here, hits_rows, hits_all, stored_swap}
-use Rattle.transpose.proofs.Heads.{head_within, outside_set}
+use Rattle.transpose.specs.Flipping.{HeadLaid}
+use Rattle.transpose.proofs.Heads.{outside_set}
 use Rattle.transpose.proofs.Placing.{placed_long, placed_before, placed_in, placed_after, part_at, part_length, part_means}
 
 module _ {S : Type 0} (a : Figures S) (n : ℕ) (t : Table a.F) (base : ℕ) (ws : List ℕ) (fs : List S) where

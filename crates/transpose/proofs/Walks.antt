@@ -1,14 +1,14 @@
 -- The walk over the cells of a sheet that is flipped, with the row that moves along.
-use Rattle.std.proofs.Common.{◌≡◌, ℕ, zero, suc, ◌+◌, ◌-◌, ◌<◌, ◌≤◌, true, false, cond, eqb, ◌⊎◌, List, length, get_or, set, sym, refl, ap, ◌∙◌, subst, ap₂, inl, inr, ⊎_elim, add-one, arith}
+use Rattle.std.proofs.Common.{◌≡◌, ℕ, ◌+◌, ◌-◌, ◌<◌, ◌≤◌, true, cond, eqb, List, length, get_or, set, sym, refl, ap, ◌∙◌, subst, ap₂, inl, ⊎_elim, arith}
 use Rattle.std.proofs.lemmas.List.{get_or-set_same, get_or-set_other, same_lists, ext_get_or}
 use Rattle.std.proofs.lemmas.Bool.{cases_lt, cases_eq, eq-eqb, ne_eqb}
 use Rattle.arithmetic.specs.Semiring.{Figures, meanings}
 use Rattle.matrix.specs.Tables.{Table, flipped}
-use Rattle.sheet.specs.Packed.{Sound, stored, columns_below, row_columns, row_start, packed_length, table}
+use Rattle.sheet.specs.Packed.{Sound, stored, columns_below, row_start, packed_length, table}
 use Rattle.sheet.specs.Writing.{part, Appended}
-use Rattle.sheet.proofs.Found.{sound_rises, row_past, row_within, cell_at}
+use Rattle.sheet.proofs.Found.{cell_at}
 use Rattle.sheet.proofs.Unique.{cell_figure, cell_stored}
-use Rattle.transpose.specs.Flipping.{hits, Outside, HeadLaid}
+use Rattle.transpose.specs.Flipping.{hits, HeadLaid}
 use Rattle.transpose.proofs.Hits.{hits_more, hits_here, hits_rows, hits_all, stored_swap, flipped_length}
 use Rattle.transpose.proofs.Heads.{read_part}
 use Rattle.transpose.proofs.Placing.{part_at, part_length}

@@ -1,5 +1,7 @@
 // The transpose of a sheet: columns are counted, counts become the starts of the new rows, and each cell goes to the
 // next free place of its new row.
+#![tactic(auto)]
+
 ghost use Rattle.std.specs.Prelude.{◌≡◌, ℕ, ◌+◌, ◌-◌, ◌<◌, ◌≤◌, length, slice_index};
 ghost use Rattle.arithmetic.specs.Semiring.{meanings};
 ghost use Rattle.matrix.specs.Tables.{flipped};

@@ -1,5 +1,5 @@
-use Rattle.std.proofs.Common.{◌≡◌, ℕ, List, [], ◌∷◌, map, length, refl, ap, ap₂, arith}
-use Rattle.arithmetic.specs.Amounts.{Quantity, quantity}
+use Rattle.std.proofs.Common.{◌≡◌, ℕ, List, [], ◌∷◌, length, refl, ap, ap₂, arith}
+use Rattle.arithmetic.specs.Amounts.{Quantity}
 use Rattle.arithmetic.specs.Capped.{same_capped}
 use Rattle.arithmetic.specs.Squares.{same_square}
 use Rattle.worked.specs.Worked.{Worked}

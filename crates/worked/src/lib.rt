@@ -1,4 +1,6 @@
 // Worked examples of arithmetics, sheets and workings, proved.
+#![tactic(auto)]
+
 ghost use Rattle.worked.specs.Worked.{Worked};
 
 // Does nothing: its contract is the list of worked examples.

@@ -1,4 +1,6 @@
 // A sound sheet times a vector, and a vector times a sound sheet. Only stored cells are read.
+#![tactic(auto)]
+
 ghost use Rattle.std.specs.Prelude.{◌≡◌, ℕ, ◌<◌, map, length};
 ghost use Rattle.std.specs.List.{range_with_len};
 ghost use Rattle.arithmetic.specs.Semiring.{meanings};

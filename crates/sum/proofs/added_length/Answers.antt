@@ -1,7 +1,7 @@
-use Rattle.std.proofs.Common.{◌≡◌, ◌<◌, ◌≤◌, length, sym, refl, ◌∙◌, ap₂, arith}
+use Rattle.std.proofs.Common.{◌∙◌, ap₂, arith}
 use Rattle.arithmetic.specs.Semiring.{meanings}
 use Rattle.matrix.proofs.Meant.{read_means}
-use Rattle.sum.proofs.Merges.{measured_none, measured_small, measured_row, bounded_none, bounded_step, next_from, merging_next, spots_within, measured_next}
+use Rattle.sum.proofs.Merges.{measured_none, measured_small, measured_row, bounded_none, next_from, merging_next, spots_within, measured_next}
 use Rattle.sum.proofs.added_length.Goals as goal
 
 pub loop-row-init : goal.loop-row-init

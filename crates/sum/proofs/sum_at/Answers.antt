@@ -1,4 +1,4 @@
-use Rattle.std.proofs.Common.{◌∙◌, ap₂, arith}
+use Rattle.std.proofs.Common.{◌∙◌, ap₂}
 use Rattle.matrix.proofs.Meant.{read_means}
 use Rattle.sheet.specs.Writing.{part}
 use Rattle.sum.proofs.sum_at.Goals as goal

@@ -1,4 +1,4 @@
-use Rattle.std.proofs.Common.{◌≡◌, ◌+◌, ◌-◌, ◌<◌, ◌≤◌, length, set, sym, refl, arith, rules}
+use Rattle.std.proofs.Common.{◌≡◌, ◌+◌, ◌-◌, ◌<◌, length, set, sym, refl, arith, rules}
 use Rattle.std.proofs.lemmas.List.{length-set, set-set, length-take, length-drop}
 use Rattle.matrix.specs.Tables.{added}
 use Rattle.sheet.proofs.Made.{started, ended}

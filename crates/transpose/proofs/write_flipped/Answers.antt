@@ -1,7 +1,6 @@
-use Rattle.std.proofs.Common.{◌≡◌, ℕ, ◌+◌, ◌-◌, ◌<◌, ◌≤◌, length, get_or, sym, refl, ◌∙◌, subst, arith, rules}
+use Rattle.std.proofs.Common.{◌≡◌, ℕ, ◌+◌, ◌-◌, ◌<◌, length, get_or, sym, refl, ◌∙◌, subst, arith, rules}
 use Rattle.arithmetic.specs.Semiring.{meanings}
-use Rattle.matrix.specs.Tables.{flipped}
-use Rattle.sheet.specs.Packed.{Sound, table, row_start}
+use Rattle.sheet.specs.Packed.{Sound, row_start}
 use Rattle.sheet.specs.Writing.{part, Appended}
 use Rattle.transpose.specs.Flipping.{HeadLaid}
 use Rattle.transpose.proofs.Hits.{hits_all}

@@ -1,6 +1,6 @@
-use Rattle.std.proofs.Common.{◌≡◌, [], ◌∷◌, sym, refl, ap₂, arith}
+use Rattle.std.proofs.Common.{[], ◌∷◌, sym, refl, ap₂, arith}
 use Rattle.matrix.specs.Tables.{added}
-use Rattle.book.specs.Book.{Arrays, order_of, sheet_table}
+use Rattle.book.specs.Book.{Arrays, sheet_table}
 use Rattle.book.specs.Lines.{pair_guard}
 use Rattle.book.specs.Calls.{no_room}
 use Rattle.book.proofs.Early.{early_by}

@@ -1,6 +1,5 @@
-use Rattle.std.proofs.Common.{◌≡◌, length, get_or, sym, refl, ap, ◌∙◌, inl, inr, arith, rules, below_more}
+use Rattle.std.proofs.Common.{◌≡◌, get_or, inl, inr, arith, below_more}
 use Rattle.std.proofs.lemmas.Result.{err_from_is_err_and}
-use Rattle.sheet.specs.declared.refusal.Refusal.TheVariants.{Position}
 use Rattle.book.specs.Book.{Arrays}
 use Rattle.book.proofs.Passing.{layout_passes, header_passes}
 use Rattle.book.proofs.Starts.{lies, few, all_keep, first_break}

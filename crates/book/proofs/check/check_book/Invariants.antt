@@ -1,5 +1,4 @@
-use Rattle.std.proofs.Common.{ℕ, ◌+◌, ◌<◌, ◌≤◌, length, get_or}
-use Rattle.book.specs.Book.{Arrays}
+use Rattle.std.proofs.Common.{ℕ, ◌<◌, ◌≤◌, length, get_or}
 use Rattle.book.proofs.Starts.{Lies, SheetsKeep}
 use Rattle.book.proofs.check.check_book.Given as goal
 

@@ -1,6 +1,5 @@
-use Rattle.std.proofs.Common.{◌≡◌, ℕ, ◌+◌, ◌<◌, ◌≤◌, List, [], ◌∷◌, length, get_or, set, sym, refl, ap, ◌∙◌, inl, inr, arith}
+use Rattle.std.proofs.Common.{ℕ, ◌+◌, ◌≤◌, List, [], ◌∷◌, set, sym, refl, ap, ◌∙◌, inl, inr, arith}
 use Rattle.arithmetic.specs.Semiring.{Figures}
-use Rattle.sheet.specs.Packed.{packed_length}
 use Rattle.sheet.proofs.Laying.{starts_grow}
 use Rattle.sheet.proofs.Lists.{listed}
 use Rattle.book.specs.Book.{Arrays, last_end, capacity, order_of, sheets_of}

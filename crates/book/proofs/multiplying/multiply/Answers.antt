@@ -1,4 +1,4 @@
-use Rattle.std.proofs.Common.{◌≡◌, [], ◌∷◌, sym, refl, ap₂, arith}
+use Rattle.std.proofs.Common.{[], ◌∷◌, sym, refl, ap₂, arith}
 use Rattle.matrix.specs.Tables.{product}
 use Rattle.book.specs.Book.{Arrays, order_of, sheet_table}
 use Rattle.book.specs.Lines.{pair_guard}

@@ -1,4 +1,4 @@
-use Rattle.std.proofs.Common.{◌≡◌, ◌+◌, ◌<◌, ◌≤◌, [], ◌∷◌, length, get_or, set, sym, refl, ap, ◌∙◌, inl, inr, arith}
+use Rattle.std.proofs.Common.{◌+◌, ◌≤◌, [], ◌∷◌, set, sym, refl, ap, ◌∙◌, inl, inr, arith}
 use Rattle.matrix.specs.Tables.{unit_table}
 use Rattle.sheet.proofs.Diagonals.{unit_length}
 use Rattle.book.specs.Book.{Arrays, last_end, capacity, order_of, sheets_of}

@@ -1,4 +1,4 @@
-use Rattle.std.proofs.Common.{◌≡◌, ◌+◌, ◌∙◌, ap₂, add-one, arith}
+use Rattle.std.proofs.Common.{◌+◌, ap₂, add-one, arith}
 use Rattle.product.proofs.multiplying.product_length.Goals as goal
 
 pub loop-i-preserved : goal.loop-i-preserved

@@ -1,7 +1,6 @@
-use Rattle.std.proofs.Common.{◌≡◌, length, refl, arith}
-use Rattle.arithmetic.specs.Semiring.{meanings}
+use Rattle.std.proofs.Common.{refl, arith}
 use Rattle.matrix.proofs.Meant.{length-meanings}
-use Rattle.product.specs.Meetings.{multiplied, Linked}
+use Rattle.product.specs.Meetings.{multiplied}
 use Rattle.product.proofs.Resting.{rest_none, cell_from, cell_below, cell_gap, cell_is, rest_more, end_gap, rest_all, size_more, size_all}
 use Rattle.product.proofs.multiplying.row_size.Goals as goal
 

@@ -1,4 +1,4 @@
-use Rattle.std.proofs.Common.{◌≡◌, ◌+◌, ◌-◌, ◌<◌, ◌≤◌, length, set, sym, refl, arith, rules}
+use Rattle.std.proofs.Common.{◌≡◌, ◌+◌, ◌-◌, ◌<◌, length, set, sym, refl, arith, rules}
 use Rattle.std.proofs.lemmas.List.{length-set, set-set}
 use Rattle.matrix.specs.Tables.{product}
 use Rattle.sheet.proofs.Made.{started, ended}

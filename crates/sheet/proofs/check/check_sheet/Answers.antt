@@ -1,4 +1,4 @@
-use Rattle.std.proofs.Common.{◌<◌, ◌≤◌, refl, arith, below_more}
+use Rattle.std.proofs.Common.{refl, arith, below_more}
 use Rattle.sheet.proofs.Rows.{inside, walk_rises}
 use Rattle.sheet.proofs.check.check_sheet.Goals as goal
 

@@ -1,4 +1,4 @@
-use Rattle.std.proofs.Common.{◌≡◌, sym, ◌∙◌, arith, rules}
+use Rattle.std.proofs.Common.{sym, ◌∙◌, arith, rules}
 use Rattle.matrix.proofs.Meant.{read_means}
 use Rattle.sheet.proofs.check.head_keeps.Goals as goal
 

@@ -1,8 +1,8 @@
-use Rattle.std.proofs.Common.{◌≡◌, ℕ, ◌+◌, ◌-◌, ◌<◌, ◌≤◌, true, false, length, get_or, set, sym, refl, ap, ◌∙◌, arith}
+use Rattle.std.proofs.Common.{◌≡◌, ℕ, ◌+◌, ◌-◌, ◌<◌, ◌≤◌, true, false, length, get_or, set, sym, refl, ◌∙◌, arith}
 use Rattle.std.proofs.lemmas.List.{length-set, set-set}
 use Rattle.sheet.specs.Packed.{packed_length}
 use Rattle.sheet.proofs.Lists.{listed}
-use Rattle.sheet.proofs.Loads.{Loading, loading_none, loading_entry, entry_room, loading_row, row_room, loading_all, appended_over}
+use Rattle.sheet.proofs.Loads.{loading_none, loading_entry, entry_room, loading_row, row_room, loading_all, appended_over}
 use Rattle.sheet.proofs.loading.write_loaded.Goals as goal
 
 apart : false ≡ true → ⊥

@@ -1,4 +1,4 @@
-use Rattle.std.proofs.Common.{◌≡◌, ◌+◌, ◌≤◌, length, set, sym, refl, arith}
+use Rattle.std.proofs.Common.{◌+◌, set, sym, arith}
 use Rattle.std.proofs.lemmas.List.{length-set, set-set}
 use Rattle.matrix.specs.Tables.{unit_table}
 use Rattle.sheet.proofs.Loads.{appended_over}

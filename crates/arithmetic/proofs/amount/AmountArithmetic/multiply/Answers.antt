@@ -1,4 +1,4 @@
-use Rattle.std.proofs.Common.{◌*◌, min, sym, ap, ◌∙◌, arith}
+use Rattle.std.proofs.Common.{min, arith}
 use Rattle.arithmetic.specs.Capped.{same_capped}
 use Rattle.arithmetic.specs.Amounts.{ceiling, factor, factor_right}
 use Rattle.arithmetic.proofs.amount.AmountArithmetic.multiply.Goals as goal

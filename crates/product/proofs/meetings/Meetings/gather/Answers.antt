@@ -1,7 +1,7 @@
-use Rattle.std.proofs.Common.{◌≡◌, ◌<◌, get_or, ap, ◌∙◌, ap₂, arith}
+use Rattle.std.proofs.Common.{◌<◌, get_or, ap, ◌∙◌, ap₂, arith}
 use Rattle.arithmetic.specs.Semiring.{meanings}
 use Rattle.matrix.proofs.Meant.{read_means}
-use Rattle.product.proofs.Chains.{walk_none, walk_more, walk_all}
+use Rattle.product.proofs.Chains.{walk_more, walk_all}
 use Rattle.product.proofs.meetings.Meetings.gather.Goals as goal
 
 pub loop-m-preserved : goal.loop-m-preserved

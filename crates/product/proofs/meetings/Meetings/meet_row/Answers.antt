@@ -1,4 +1,4 @@
-use Rattle.std.proofs.Common.{◌≡◌, ◌+◌, ◌<◌, ◌≤◌, length, ap, ◌∙◌, arith}
+use Rattle.std.proofs.Common.{◌+◌, ◌∙◌, arith}
 use Rattle.arithmetic.specs.Semiring.{meanings}
 use Rattle.matrix.proofs.Meant.{length-meanings}
 use Rattle.sheet.proofs.Found.{sound_rises, row_within, cell_at}

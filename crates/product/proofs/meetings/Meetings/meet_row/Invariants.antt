@@ -1,4 +1,4 @@
-use Rattle.std.proofs.Common.{◌+◌, ◌-◌, ◌≤◌, length, get_or}
+use Rattle.std.proofs.Common.{◌-◌}
 use Rattle.arithmetic.specs.Semiring.{meanings}
 use Rattle.product.proofs.Linking.{Linking}
 use Rattle.product.proofs.meetings.Meetings.meet_row.Given as goal

@@ -1,4 +1,4 @@
-use Rattle.std.proofs.Common.{◌≡◌, refl, arith}
+use Rattle.std.proofs.Common.{refl, arith}
 use Rattle.product.proofs.meetings.Meetings.next_cell.Goals as goal
 
 pub returns : goal.returns

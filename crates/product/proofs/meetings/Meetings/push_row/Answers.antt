@@ -1,4 +1,4 @@
-use Rattle.std.proofs.Common.{◌≡◌, ◌+◌, ◌-◌, get_or, sym, ap, ◌∙◌, arith}
+use Rattle.std.proofs.Common.{◌+◌, ◌-◌, get_or, sym, ap, ◌∙◌, arith}
 use Rattle.product.specs.declared.meetings.Meetings.{Meetings}
 use Rattle.product.specs.Meetings.{pushed}
 use Rattle.product.proofs.Chains.{pushed_more, pushed_none}

@@ -1,5 +1,5 @@
-use Rattle.std.proofs.Common.{◌≡◌, ◌+◌, ◌-◌, ◌<◌, get_or}
-use Rattle.product.specs.Meetings.{meeting, pushed}
+use Rattle.std.proofs.Common.{◌≡◌, ◌+◌, ◌-◌, get_or}
+use Rattle.product.specs.Meetings.{pushed}
 use Rattle.product.proofs.meetings.Meetings.push_row.Given as goal
 
 abbrev pub invariant-loop-q : goal.invariant-loop-q
