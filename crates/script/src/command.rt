@@ -46,7 +46,7 @@ pub enum Command<F> {
 }
 
 const COMMANDS: &str =
-    "'open', 'unit', 'load', 'add', 'multiply', 'flip', 'strike', 'cell', 'row', 'column_working', 'row_working', 'weigh', 'table', 'arrays' or 'arithmetic'";
+    "'open', 'unit', 'load', 'strike', 'cell', 'row', 'weigh', 'table' or 'arrays'";
 
 impl<F: Figure> Command<F> {
     fn read_open(heap: Global, line: &Line<'_>) -> Result<Command<F>, Fault> {

@@ -9,6 +9,8 @@ mod input;
 mod record;
 mod stop;
 mod table;
+#[cfg(test)]
+mod tests;
 
 use failure::Failure;
 use std::process::ExitCode;

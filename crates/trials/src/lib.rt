@@ -1,9 +1,7 @@
 #![tactic(auto)]
 
-// Tests, and nothing else: damaged books and damaged scripts, where each kind of damage gets its number and its place, or
-// its line and what was expected there; and what the arrays hold where figures vanish.
-#[cfg(test)]
-mod books;
+// Tests, and nothing else: texts that are no script, where each gets its line and what was expected there; and what the
+// arrays hold where figures vanish.
 #[cfg(test)]
 mod scripts;
 #[cfg(test)]
