@@ -1,6 +1,6 @@
 -- Two clerks' books: sheets of equal pedigree are equal.
 use Rattle.std.proofs.Common.{◌≡◌, ℕ, ◌<◌, Bool, true, ◌⊎◌, List, [], ◌∷◌, length, get_or, Result, sym, ap, ◌∙◌, inl, inr, ⊎_elim, arith}
-use Rattle.std.specs.List.{AllByRecursion as All}
+use Rattle.std.specs.List.{AllByRecursion}
 use Rattle.std.proofs.lemmas.List.{same_lists, get_or-map}
 use Rattle.std.proofs.ByRecursion.{All-get_or}
 use Rattle.arithmetic.specs.Semiring.{Figures, Commutes, meanings}
@@ -17,7 +17,7 @@ use Rattle.clerks.proofs.Carrying.{one_totals}
 use Rattle.clerks.proofs.Runs.{Stands, Keeps, run_stands}
 
 -- lists of values of one kind that mean the same one by one
-same_stored : {S : Type 0} (a : Figures S) (kind : S → Bool) → Apart a kind → (xs ys : List S) → All (λ x. kind x ≡ true) xs → All (λ x. kind x ≡ true) ys → meanings a xs ≡ meanings a ys → xs ≡ ys
+same_stored : {S : Type 0} (a : Figures S) (kind : S → Bool) → Apart a kind → (xs ys : List S) → AllByRecursion (λ x. kind x ≡ true) xs → AllByRecursion (λ x. kind x ≡ true) ys → meanings a xs ≡ meanings a ys → xs ≡ ys
 same_stored a kind apart xs ys all all' e =
     let long : length xs ≡ length ys = sym (length-meanings a xs) ∙ (ap length e ∙ length-meanings a ys) in
     same_lists xs ys long (λ k d h.

@@ -1,6 +1,6 @@
 -- Two books of one order, each worked by a clerk's list of calls.
 use Rattle.std.specs.Prelude.{◌≡◌, ℕ, ◌+◌, ◌<◌, Bool, true, ◌⊎◌, List, [], ◌∷◌, length, Ok, Result, slice_index_or}
-use Rattle.std.specs.List.{AllByRecursion as All}
+use Rattle.std.specs.List.{AllByRecursion}
 use Rattle.arithmetic.specs.Semiring.{Figures, Commutes}
 use Rattle.matrix.specs.Tables.{Table}
 use Rattle.matrix.specs.Bags.{SameBag}
@@ -78,7 +78,7 @@ module _ {S : Type 0} (a : Figures S) where
   pub record Equal (b : Arrays S) (i : ℕ) (c : Arrays S) (j : ℕ) : Type 0 where
     pub index : sheet_index b i ≡ sheet_index c j
     pub figures : sheet_figures a b i ≡ sheet_figures a c j
-    pub stored : (kind : S → Bool) → Apart kind → All (λ x. kind x ≡ true) (sheet_stored b i) → All (λ x. kind x ≡ true) (sheet_stored c j) → sheet_stored b i ≡ sheet_stored c j
+    pub stored : (kind : S → Bool) → Apart kind → AllByRecursion (λ x. kind x ≡ true) (sheet_stored b i) → AllByRecursion (λ x. kind x ≡ true) (sheet_stored c j) → sheet_stored b i ≡ sheet_stored c j
 
   -- any two sheets, one in each book, whose pedigrees hold every chain equally often are equal in both arrays
   abbrev pub Agree : Arrays S → List (Pedigree a.F) → Arrays S → List (Pedigree a.F) → Type 0
