@@ -85,7 +85,7 @@ fn bad_input(rt: HostRuntime) -> Result<(), Fail> {
         ),
     ];
     for (text, said) in table {
-        assert_eq!(rt; told(rt.alloc(), text)?.as_str(), said, "{}", text);
+        assert_eq!(rt; told(rt.alloc(), text)?.as_str(), said);
     }
     Ok(())
 }
