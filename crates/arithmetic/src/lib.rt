@@ -23,7 +23,7 @@ pub trait Arithmetic: Copy {
     // Whether the arithmetic states that a × b is b × a. If it does, it owes that law.
     ghost commutes: { Bool };
 
-    // The statement for code. A clause cannot name it, so `states_commuting` says what it promises.
+    // The statement for code; `states_commuting` says what it promises.
     const COMMUTES: bool;
 
     fn states_commuting() -> bool

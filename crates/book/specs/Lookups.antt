@@ -8,7 +8,7 @@ use Rattle.book.specs.Book.{Arrays, start_of, sheet_index, sheet_table}
 use Rattle.book.specs.Lines.{Line, Granted, SentBack, guard, missing, outside, outside_row}
 
 module _ {S : Type 0} (b : Arrays S) where
-  -- where the off_diagonal cells of a row of sheet k begin in the index array, and one past their last
+  -- where the off-diagonal cells of a row of sheet k begin in the index array, and one past their last
   abbrev pub row_from : ℕ → ℕ → ℕ
   row_from k row = start_of b k + slice_index (sheet_index b k) row
 

@@ -43,7 +43,7 @@ pub fn cell<F: Arithmetic>(
     Ok(cell_of(order, &index[from..to], &figures[from..to], row, column))
 }
 
-// Where the off_diagonal cells of a row of a sheet begin in the index array and the figure array, and one
+// Where the off-diagonal cells of a row of a sheet begin in the index array and the figure array, and one
 // past their last.
 pub fn row<F: Arithmetic>(
     header: &[u32],
@@ -63,7 +63,7 @@ pub fn row<F: Arithmetic>(
     Ok((from + words[row] as usize, from + words[row + 1] as usize))
 }
 
-// The columns of the off_diagonal cells of a row of a sheet.
+// The columns of the off-diagonal cells of a row of a sheet.
 pub fn columns<'a, F: Arithmetic>(
     header: &'a [u32],
     index: &'a [u32],
@@ -77,7 +77,7 @@ pub fn columns<'a, F: Arithmetic>(
     Ok(&index[from..to])
 }
 
-// The figures of the off_diagonal cells of a row of a sheet, in the order of their columns.
+// The figures of the off-diagonal cells of a row of a sheet, in the order of their columns.
 pub fn figures<'a, F: Arithmetic>(
     header: &'a [u32],
     index: &'a [u32],

@@ -38,7 +38,7 @@ fn answer_figure<F: fmt::Display + Drop>(
     Ok(format!(in heap; "{}.", found?)?)
 }
 
-// Where the off_diagonal cells of a row lie, with their columns and figures.
+// Where the off-diagonal cells of a row lie, with their columns and figures.
 fn answer_row<F: Arithmetic + fmt::Display>(
     heap: Global,
     book: &Book<F>,

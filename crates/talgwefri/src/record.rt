@@ -21,7 +21,7 @@ fn line<F: Arithmetic + fmt::Display>(
             let why = SentBack { refusal, loading };
             format!(in heap; "{number}. {command}: {why}\n")
         }
-        Err(Stop::Memory) => Err(AllocError),
+        Err(Stop::Memory(why)) => Err(why),
     }
 }
 

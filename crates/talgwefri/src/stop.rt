@@ -6,7 +6,7 @@ use std::fmt;
 #[derive(Clone, Copy)]
 pub(crate) enum Stop {
     SentBack(Refusal),
-    Memory,
+    Memory(AllocError),
 }
 
 impl From<Refusal> for Stop {
@@ -16,14 +16,14 @@ impl From<Refusal> for Stop {
 }
 
 impl From<AllocError> for Stop {
-    fn from(_e: AllocError) -> Stop {
-        Stop::Memory
+    fn from(why: AllocError) -> Stop {
+        Stop::Memory(why)
     }
 }
 
 impl<T: Drop> From<AllocFailed<T>> for Stop {
-    fn from(_e: AllocFailed<T>) -> Stop {
-        Stop::Memory
+    fn from(why: AllocFailed<T>) -> Stop {
+        Stop::Memory(AllocError::from(why))
     }
 }
 
