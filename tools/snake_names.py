@@ -5,7 +5,8 @@ usage: python3 tools/snake_names.py [--list]      at the top of the repository, 
 
 A name that specs/ or proofs/ declares, and a name that a proof binds, has `_` where it had a dash, in every file of
 proofs, specs and source. Not touched: names of the library, names that Rattle makes of the code (goals, steps, loops),
-functions of src/, strings. A dash stays where it joins the names of two operations, as in the library's `mul-add`: KEPT.
+functions of src/, strings. A word of a comment is turned where it is such a name: read those. A dash stays where it
+joins the names of two operations, as in the library's `mul-add`: KEPT.
 It stops, and writes nothing, where two names would fall together. --list prints what it would rename.
 """
 
@@ -30,8 +31,6 @@ LETTER = r"[^\s(){}\[\];,.«»@\"`]"
 TOKEN = re.compile(LETTER + "+")
 DASHED = re.compile(r"^[A-Za-z][A-Za-z0-9_']*(-[A-Za-z0-9_'∷]+)+$")
 SIGNATURE = re.compile(r"^\s*(?:(?:abbrev|unfoldable|pub|data|record)\s+)*(" + LETTER + r"+)\s*(?:[({][^=]*[)}]\s*)?:\s*(.*)$")
-CONSTRUCTOR = re.compile(r"^\s*(?:pub\s+)?(" + LETTER + r"+)\s*:\s")
-ANSWERS = ("Answers.antt", "Invariants.antt", "Choices.antt", "Proof.antt")
 MADE = ("loop-", "returns-", "then-", "else-", "if-", "not-", "in_", "invariant-", "decreases-", "overflow", "index-", "ensures-", "ghost-", "bounds-")
 
 
