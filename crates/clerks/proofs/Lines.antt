@@ -1,24 +1,44 @@
 -- A line of sheets, one sheet after another.
-use Rattle.std.proofs.Common.{◌≡◌, ℕ, zero, suc, ◌+◌, ◌-◌, ◌<◌, ◌≤◌, List, [], ◌∷◌, ◌++◌, length, get_or, take, drop, Ok, refl, ◌∙◌, inl, inr, arith, drop-cons}
-use Rattle.std.proofs.lemmas.List.{take_more, drop_all}
+use Rattle.std.proofs.Common.{◌≡◌, ℕ, suc, ◌+◌, ◌<◌, not, nat_eq, nat_le, Some, None, List, [], ◌∷◌, ◌++◌, length, map, reverse, get_or, take, Ok, Err, Result, ◌∙◌, inl, inr, ⊎_elim, arith}
+use Rattle.std.specs.List.{find, position_from}
+use Rattle.std.proofs.lemmas.List.{take_more, map-append, reverse-append}
+use Rattle.std.proofs.lemmas.Bool.Decides.{leb_tells, eqb_tells}
 use Rattle.arithmetic.specs.Semiring.{Figures}
 use Rattle.sheet.specs.declared.refusal.Refusal.{Refusal}
 use Rattle.sheet.specs.Weighing.{Weighs}
-use Rattle.book.specs.Book.{Arrays, order_of, sheets_of}
+use Rattle.book.specs.Book.{Arrays, SoundBook, order_of, sheets_of}
 use Rattle.book.specs.Lines.{Granted, SentBack, FirstMissing, guard, missing}
 use Rattle.book.specs.Workings.{working_lines, ColumnWorked, RowWorked}
-use Rattle.book.proofs.Passing.{granted_both, guard_passes}
+use Rattle.book.proofs.Passing.{granted_both, guard_passes, sent_after}
 use Rattle.book.proofs.Sheets.{sheet_lies}
 use Rattle.book.proofs.Singles.{not_both}
 use Rattle.book.proofs.Worked.{working_granted}
-use Rattle.clerks.specs.Carrying.{CarriedBack, back_none, back_more, CarriedForward, forward_none, forward_more}
-use Rattle.clerks.specs.LineTotals.{FirstUneven, Even, uneven, line_lines, LineStands, LineWeighed}
+use Rattle.clerks.specs.Carrying.{CarriedBack, back_more, CarriedForward, forward_none, forward_more}
+use Rattle.clerks.specs.LineTotals.{FirstUneven, Even, uneven, SheetsChecked, line_lines, LineStands, LineChecked, LineWeighed}
 use Rattle.clerks.proofs.Carrying.{carried_totals}
 
-pub first_missing : (names : List ℕ) (sheets i : ℕ) → i < length names → ((k : ℕ) → k < i → get_or names k 0 < sheets) → sheets ≤ get_or names i 0 → FirstMissing sheets names (get_or names i 0)
-first_missing [] sheets i low below high = absurd (omega arith)
-first_missing (n ∷ ns) sheets zero low below high = inl (high, refl)
-first_missing (n ∷ ns) sheets (suc i) low below high = inr (below 0 (omega arith), first_missing ns sheets i (omega arith) (λ k h. below (suc k) (omega arith)) high)
+-- what a search along the line for a number that is too high finds
+pub first_missing : (names : List ℕ) (sheets p : ℕ) → find (λ k. nat_le sheets k) names ≡ Some p → FirstMissing sheets names p
+first_missing [] sheets p found = absurd (cc found)
+first_missing (n ∷ ns) sheets p found = ⊎_elim
+    (λ high. let is = rw high.0 at found in inl (high.1, cc))
+    (λ low. inr (low.1, first_missing ns sheets p (rw low.0 at found)))
+    (leb_tells sheets n)
+
+-- what a search for a vector that is not as long as n finds
+pub first_uneven : {S A : Type 0} (items : A → List S) (n at p : ℕ) (vectors : List A) → position_from (λ v. not (nat_eq (length (items v)) n)) at vectors ≡ Some p → FirstUneven n (map items vectors) at p
+first_uneven items n at p [] found = absurd (cc found)
+first_uneven items n at p (v ∷ vs) found = ⊎_elim
+    (λ same. inr (same.1, first_uneven items n (at + 1) p vs (rw same.0 at found)))
+    (λ other. let is = rw other.0 at found in inl (other.1, cc))
+    (eqb_tells (length (items v)) n)
+
+pub all_even : {S A : Type 0} (items : A → List S) (n at : ℕ) (vectors : List A) → position_from (λ v. not (nat_eq (length (items v)) n)) at vectors ≡ None → Even n (map items vectors)
+all_even items n at [] found = tt
+all_even items n at (v ∷ vs) found = ⊎_elim
+    (λ same. (same.1, all_even items n (at + 1) vs (rw same.0 at found)))
+    (λ other. absurd (let is = rw other.0 at found in cc))
+    (eqb_tells (length (items v)) n)
 
 none_missing : (names : List ℕ) (sheets p : ℕ) → ((k : ℕ) → k < length names → get_or names k 0 < sheets) → FirstMissing sheets names p → ⊥
 none_missing [] sheets p below missing = missing
@@ -39,6 +59,13 @@ module _ {S : Type 0} (a : Figures S) (b : Arrays S) (line : List ℕ) where
       granted_both (guard a b) (uneven (order_of b) vectors ∷ (missing b line ∷ [])) (guard_passes b a stands.sound)
       ((λ why fault. none_uneven (order_of b) vectors 0 fault.0 even fault.2), ((λ why fault. none_missing line (sheets_of b) fault.0 stands.there fault.2), tt))
 
+  -- a sound book and vectors as long as the order: what is left is whether the sheets are there
+  pub line_checked : SoundBook a b → (vectors : List (List S)) → Even (order_of b) vectors → (r : Result (Unit {0}) Refusal) → SheetsChecked line (sheets_of b) r → LineChecked a b line vectors r
+  line_checked sound vectors even (Ok u) there = (record { sound = sound; there = there }, even)
+  line_checked sound vectors even (Err why) missed =
+      sent_after (guard a b) (uneven (order_of b) vectors ∷ (missing b line ∷ [])) why (guard_passes b a sound)
+      (inr ((λ why fault. none_uneven (order_of b) vectors 0 fault.0 even fault.2), inl missed))
+
   pub line_weighed : (x y back forward spare : List S) (first second : S) → length x ≡ order_of b → length y ≡ order_of b → CarriedBack a b line x back → CarriedForward a b line y forward → spare ≡ x → Weighs a y back (Ok first) → Weighs a forward x (Ok second) → LineWeighed a b line x y (first, second) (record { back = back; forward = forward; spare = spare })
   line_weighed x y back forward spare first second long long' went_back went_forward copied weighs weighs' =
       let both = carried_totals a b line x y back forward long long' went_back went_forward in
@@ -49,16 +76,9 @@ module _ {S : Type 0} (a : Figures S) (b : Arrays S) (line : List ℕ) where
   never_sent stands i low given out long long' why sent =
       not_both (working_lines a b (get_or line i 0) given out) why (working_granted a b (get_or line i 0) given out _ _ (sheet_lies a b stands.sound (get_or line i 0) (stands.there i low), long, long')) sent
 
-  -- nothing of the line yet
-  pub back_start : (x out : List S) → out ≡ x → CarriedBack a b (drop (length line) line) x out
-  back_start x out e = rw (drop_all (length line) line (omega arith), e) back_none
-
-  -- one sheet more at the front
-  pub back_next : (i : ℕ) → 0 < i → i ≤ length line → (x given before out : List S) (answer : ℕ) → CarriedBack a b (drop i line) x before → given ≡ before → ColumnWorked a b (get_or line (i - 1) 0) given before (Ok answer) out → CarriedBack a b (drop (i - 1) line) x out
-  back_next i some low x given before out answer rest e worked =
-      let h : i - 1 < length line = omega arith in
-      let next : suc (i - 1) ≡ i = omega arith in
-      rw (drop-cons line (i - 1) 0 h, next) (back_more before answer rest (rw e at worked))
+-- one sheet more at the front
+pub back_next : {S : Type 0} (a : Figures S) (b : Arrays S) {A : Type 0} (number : A → ℕ) (sheets : List A) (sheet : A) (x given before out : List S) (answer : ℕ) → CarriedBack a b (reverse (map number sheets)) x before → given ≡ before → ColumnWorked a b (number sheet) given before (Ok answer) out → CarriedBack a b (reverse (map number (sheets ++ sheet ∷ []))) x out
+back_next a b number sheets sheet x given before out answer rest e worked = simp (map-append, reverse-append) (back_more before answer rest (rw e at worked))
 
 forward_push : {S : Type 0} (a : Figures S) (b : Arrays S) {ks : List ℕ} {y between : List S} → CarriedForward a b ks y between → (k : ℕ) (before out : List S) (answer : ℕ) → RowWorked a b k between before (Ok answer) out → CarriedForward a b (ks ++ k ∷ []) y out
 forward_push a b forward_none k before out answer worked = forward_more before answer worked forward_none

@@ -45,8 +45,7 @@ pub fn work_book<F: Arithmetic>(
 {
     check_desk(order, header, index, figures, calls, answers)?;
     open(header, index, figures, order)?;
-    carry_out_all(header, index, figures, calls, answers)?;
-    Ok(())
+    carry_out_all(header, index, figures, calls, answers)
 }
 
 // Opens two books of one order, carries out a list of calls on each, and carries x back and y forward through a line of
@@ -72,20 +71,9 @@ pub fn work_both<F: Arithmetic>(
 ) -> Result<(F, F), Halt>
     ensures { BothOutcome F.Arithmetic.figures order calls.now calls2.now line.now x.now y.now (record { first = record { book = record { header = header.old; index = index.old; figures = figures.old }; answers = answers.old }; second = record { book = record { header = header2.old; index = index2.old; figures = figures2.old }; answers = answers2.old }; vectors = record { back = back.old; forward = forward.old; spare = spare.old } }) result (record { first = record { book = record { header = header.new; index = index.new; figures = figures.new }; answers = answers.new }; second = record { book = record { header = header2.new; index = index2.new; figures = figures2.new }; answers = answers2.new }; vectors = record { back = back.new; forward = forward.new; spare = spare.new } }) }
 {
-    if let Err(why) = check_desk(order, header, index, figures, calls, answers) {
-        return Err(Halt::First(why));
-    }
-    if let Err(why) = check_desk(order, header2, index2, figures2, calls2, answers2) {
-        return Err(Halt::Second(why));
-    }
-    if let Err(why) = work_book(order, header, index, figures, calls, answers) {
-        return Err(Halt::First(why));
-    }
-    if let Err(why) = work_book(order, header2, index2, figures2, calls2, answers2) {
-        return Err(Halt::Second(why));
-    }
-    match line_totals(header, index, figures, line, x, y, back, forward, spare) {
-        Ok(totals) => Ok(totals),
-        Err(why) => Err(Halt::Line(why)),
-    }
+    check_desk(order, header, index, figures, calls, answers).map_err(Halt::First)?;
+    check_desk(order, header2, index2, figures2, calls2, answers2).map_err(Halt::Second)?;
+    work_book(order, header, index, figures, calls, answers).map_err(Halt::First)?;
+    work_book(order, header2, index2, figures2, calls2, answers2).map_err(Halt::Second)?;
+    line_totals(header, index, figures, line, x, y, back, forward, spare).map_err(Halt::Line)
 }

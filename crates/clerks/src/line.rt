@@ -1,4 +1,4 @@
-ghost use Rattle.std.specs.Prelude.{◌≡◌, [], ◌∷◌, length};
+ghost use Rattle.std.specs.Prelude.{◌≡◌, length, map};
 ghost use Rattle.book.specs.Book.{order_of};
 ghost use Rattle.clerks.specs.LineTotals.{LengthsChecked, SheetsChecked, LineStands, LineChecked, LineOutcome, BackDone, ForwardDone};
 
@@ -7,44 +7,23 @@ use book::{Refusal, check_book, column_working, row_working};
 use sheet::weigh;
 
 // Whether each of the vectors is as long as the order.
-fn check_lengths<F: Arithmetic>(
-    order: usize,
-    x: &[F],
-    y: &[F],
-    back: &[F],
-    forward: &[F],
-    spare: &[F],
-) -> Result<(), Refusal>
-    ensures { LengthsChecked order (x.now ∷ (y.now ∷ (back.now ∷ (forward.now ∷ (spare.now ∷ []))))) result }
+fn check_lengths<F: Arithmetic>(order: usize, vectors: &[&[F]]) -> Result<(), Refusal>
+    ensures { LengthsChecked order (map (λ v. v.now) vectors.now) result }
 {
-    if x.len() != order {
-        return Err(Refusal::Lengths(0));
+    match vectors.iter().position(|vector| vector.len() != order) {
+        Some(uneven) => Err(Refusal::Lengths(uneven)),
+        None => Ok(()),
     }
-    if y.len() != order {
-        return Err(Refusal::Lengths(1));
-    }
-    if back.len() != order {
-        return Err(Refusal::Lengths(2));
-    }
-    if forward.len() != order {
-        return Err(Refusal::Lengths(3));
-    }
-    if spare.len() != order {
-        return Err(Refusal::Lengths(4));
-    }
-    Ok(())
 }
 
 // Whether every number of the line is below the number of sheets.
 fn check_sheets(line: &[usize], sheets: usize) -> Result<(), Refusal>
     ensures { SheetsChecked line.now sheets result }
 {
-    for i in 0..line.len() {
-        if line[i] >= sheets {
-            return Err(Refusal::Sheet(line[i]));
-        }
+    match line.iter().find(|sheet| **sheet >= sheets) {
+        Some(&missing) => Err(Refusal::Sheet(missing)),
+        None => Ok(()),
     }
-    Ok(())
 }
 
 // Checks the book, that each of the vectors is as long as the order, and that the book has every sheet of the line.
@@ -53,18 +32,13 @@ fn check_line<F: Arithmetic>(
     index: &[u32],
     figures: &[F],
     line: &[usize],
-    x: &[F],
-    y: &[F],
-    back: &[F],
-    forward: &[F],
-    spare: &[F],
+    vectors: &[&[F]],
 ) -> Result<(), Refusal>
-    ensures { LineChecked F.Arithmetic.figures (record { header = header.now; index = index.now; figures = figures.now }) line.now (x.now ∷ (y.now ∷ (back.now ∷ (forward.now ∷ (spare.now ∷ []))))) result }
+    ensures { LineChecked F.Arithmetic.figures (record { header = header.now; index = index.now; figures = figures.now }) line.now (map (λ v. v.now) vectors.now) result }
 {
     check_book(header, index, figures)?;
-    check_lengths(header[0] as usize, x, y, back, forward, spare)?;
-    check_sheets(line, header[1] as usize)?;
-    Ok(())
+    check_lengths(header[0] as usize, vectors)?;
+    check_sheets(line, header[1] as usize)
 }
 
 // Column working along the line, from its last sheet to its first: each takes what the one after it gave.
@@ -82,11 +56,9 @@ fn carry_back<F: Arithmetic>(
     ensures { BackDone F.Arithmetic.figures (record { header = header.now; index = index.now; figures = figures.now }) line.now x.now out.new result }
 {
     out.copy_from_slice(x);
-    let mut i = line.len();
-    while i > 0 {
-        i -= 1;
+    for &sheet in line.iter().rev() {
         spare.copy_from_slice(out);
-        column_working(header, index, figures, line[i], spare, out)?;
+        column_working(header, index, figures, sheet, spare, out)?;
     }
     Ok(())
 }
@@ -106,9 +78,9 @@ fn carry_forward<F: Arithmetic>(
     ensures { ForwardDone F.Arithmetic.figures (record { header = header.now; index = index.now; figures = figures.now }) line.now y.now out.new result }
 {
     out.copy_from_slice(y);
-    for i in 0..line.len() {
+    for &sheet in line {
         spare.copy_from_slice(out);
-        row_working(header, index, figures, line[i], spare, out)?;
+        row_working(header, index, figures, sheet, spare, out)?;
     }
     Ok(())
 }
@@ -128,7 +100,7 @@ pub fn line_totals<F: Arithmetic>(
 ) -> Result<(F, F), Refusal>
     ensures { LineOutcome F.Arithmetic.figures (record { header = header.now; index = index.now; figures = figures.now }) line.now x.now y.now (record { back = back.old; forward = forward.old; spare = spare.old }) result (record { back = back.new; forward = forward.new; spare = spare.new }) }
 {
-    check_line(header, index, figures, line, x, y, back, forward, spare)?;
+    check_line(header, index, figures, line, &[x, y, back, forward, spare])?;
     carry_back(header, index, figures, line, x, back, spare)?;
     carry_forward(header, index, figures, line, y, forward, spare)?;
     spare.copy_from_slice(x);

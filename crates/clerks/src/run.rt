@@ -42,8 +42,8 @@ pub fn carry_out_all<F: Arithmetic>(
     if answers.len() != calls.len() {
         return Err(Refusal::Lengths(1));
     }
-    for i in 0..calls.len() {
-        answers[i] = carry_out(header, index, figures, calls[i]);
+    for (i, &call) in calls.iter().enumerate() {
+        answers[i] = carry_out(header, index, figures, call);
     }
     Ok(())
 }

@@ -9,14 +9,6 @@ const INDEX: [u32; 10] = [4, 4, 4, 4, 4, 5, 6, 6, 2, 0];
 
 const FIGURES: [u32; 10] = [1, 1, 1, 0, 2, 0, 1, 0, 5, 4];
 
-fn amounts(values: [u32; 10]) -> [Amount; 10] {
-    let mut figures = [Amount::new(0); 10];
-    for i in 0..10 {
-        figures[i] = Amount::new(values[i]);
-    }
-    figures
-}
-
 fn worked(line: &[usize], x: &[Amount], y: &[Amount]) -> Result<(Amount, Amount), Refusal> {
     let mut back = [Amount::new(0); 3];
     let mut forward = [Amount::new(0); 3];
@@ -24,7 +16,7 @@ fn worked(line: &[usize], x: &[Amount], y: &[Amount]) -> Result<(Amount, Amount)
     line_totals(
         &HEADER,
         &INDEX,
-        &amounts(FIGURES),
+        &FIGURES.map(Amount::new),
         line,
         x,
         y,
@@ -36,20 +28,18 @@ fn worked(line: &[usize], x: &[Amount], y: &[Amount]) -> Result<(Amount, Amount)
 
 // Both totals of a line, with x = (1, 2, 3) and y = (1, 1, 2).
 fn totals(line: &[usize]) -> Option<(u32, u32)> {
-    let x = [Amount::new(1), Amount::new(2), Amount::new(3)];
-    let y = [Amount::new(1), Amount::new(1), Amount::new(2)];
-    match worked(line, &x, &y) {
-        Ok((first, second)) => Some((first.value(), second.value())),
-        Err(_) => None,
-    }
+    let x = [1, 2, 3].map(Amount::new);
+    let y = [1, 1, 2].map(Amount::new);
+    worked(line, &x, &y)
+        .ok()
+        .map(|(first, second)| (first.value(), second.value()))
 }
 
 // The number and the place that a line is sent back with, where x and y are as long as given.
 fn refused(line: &[usize], x: &[Amount], y: &[Amount]) -> Option<(u8, usize)> {
-    match worked(line, x, y) {
-        Ok(_) => None,
-        Err(why) => Some((why.number(), why.place())),
-    }
+    worked(line, x, y)
+        .err()
+        .map(|why| (why.number(), why.place()))
 }
 
 #[test]

@@ -1,9 +1,6 @@
-use Rattle.std.proofs.Common.{◌≤◌, length, drop}
+use Rattle.std.proofs.Common.{map, reverse}
 use Rattle.clerks.specs.Carrying.{CarriedBack}
 use Rattle.clerks.proofs.line.carry_back.Given as goal
 
-abbrev pub invariant-loop-i : goal.invariant-loop-i
-invariant-loop-i g l = (l.i ≤ length l.line) × CarriedBack g.F.Arithmetic.figures (record { header = l.header; index = l.index; figures = l.figures }) (drop l.i l.line) l.x l.out
-
-abbrev pub decreases-loop-i : goal.decreases-loop-i
-decreases-loop-i g l = l.i
+abbrev pub invariant-loop-sheet : goal.invariant-loop-sheet
+invariant-loop-sheet g l = CarriedBack g.F.Arithmetic.figures (record { header = l.header; index = l.index; figures = l.figures }) (reverse (map (λ k. k.now) l.yielded)) l.x l.out
