@@ -1,18 +1,15 @@
 -- A line of sheets, one sheet after another.
-use Rattle.std.proofs.Common.{◌≡◌, ℕ, suc, ◌+◌, ◌<◌, not, nat_eq, nat_le, Some, None, List, [], ◌∷◌, ◌++◌, length, map, reverse, get_or, take, Ok, Err, Result, ◌∙◌, inl, inr, ⊎_elim, arith}
+use Rattle.std.proofs.Common.{◌≡◌, ℕ, suc, ◌+◌, ◌<◌, not, nat_eq, nat_le, Some, None, List, [], ◌∷◌, ◌++◌, length, map, reverse, get_or, Ok, Err, Result, ◌∙◌, inl, inr, ⊎_elim, arith}
 use Rattle.std.specs.List.{find, position_from}
-use Rattle.std.proofs.lemmas.List.{take_more, map-append, reverse-append}
+use Rattle.std.proofs.lemmas.List.{reverse-append}
 use Rattle.std.proofs.lemmas.Bool.Decides.{leb_tells, eqb_tells}
 use Rattle.arithmetic.specs.Semiring.{Figures}
 use Rattle.sheet.specs.declared.refusal.Refusal.{Refusal}
 use Rattle.sheet.specs.Weighing.{Weighs}
 use Rattle.book.specs.Book.{Arrays, SoundBook, order_of, sheets_of}
-use Rattle.book.specs.Lines.{Granted, SentBack, FirstMissing, guard, missing}
-use Rattle.book.specs.Workings.{working_lines, ColumnWorked, RowWorked}
+use Rattle.book.specs.Lines.{Granted, FirstMissing, guard, missing}
+use Rattle.book.specs.Workings.{ColumnWorked, RowWorked}
 use Rattle.book.proofs.Passing.{granted_both, guard_passes, sent_after}
-use Rattle.book.proofs.Sheets.{sheet_lies}
-use Rattle.book.proofs.Singles.{not_both}
-use Rattle.book.proofs.Worked.{working_granted}
 use Rattle.clerks.specs.Carrying.{CarriedBack, back_more, CarriedForward, forward_none, forward_more}
 use Rattle.clerks.specs.LineTotals.{FirstUneven, Even, uneven, SheetsChecked, line_lines, LineStands, LineChecked, LineWeighed}
 use Rattle.clerks.proofs.Carrying.{carried_totals}
@@ -71,19 +68,11 @@ module _ {S : Type 0} (a : Figures S) (b : Arrays S) (line : List ℕ) where
       let both = carried_totals a b line x y back forward long long' went_back went_forward in
       record { back = went_back; forward = went_forward; spare = copied; first = weighs.1 ∙ both.0; second = weighs'.1 ∙ both.1 }
 
-  -- no working on a sheet of a line that stands is sent back
-  pub never_sent : LineStands a b line → (i : ℕ) → i < length line → (given out : List S) → length given ≡ order_of b → length out ≡ order_of b → (why : Refusal) → SentBack (working_lines a b (get_or line i 0) given out) why → ⊥
-  never_sent stands i low given out long long' why sent =
-      not_both (working_lines a b (get_or line i 0) given out) why (working_granted a b (get_or line i 0) given out _ _ (sheet_lies a b stands.sound (get_or line i 0) (stands.there i low), long, long')) sent
-
 -- one sheet more at the front
-pub back_next : {S : Type 0} (a : Figures S) (b : Arrays S) {A : Type 0} (number : A → ℕ) (sheets : List A) (sheet : A) (x given before out : List S) (answer : ℕ) → CarriedBack a b (reverse (map number sheets)) x before → given ≡ before → ColumnWorked a b (number sheet) given before (Ok answer) out → CarriedBack a b (reverse (map number (sheets ++ sheet ∷ []))) x out
-back_next a b number sheets sheet x given before out answer rest e worked = simp (map-append, reverse-append) (back_more before answer rest (rw e at worked))
-
-forward_push : {S : Type 0} (a : Figures S) (b : Arrays S) {ks : List ℕ} {y between : List S} → CarriedForward a b ks y between → (k : ℕ) (before out : List S) (answer : ℕ) → RowWorked a b k between before (Ok answer) out → CarriedForward a b (ks ++ k ∷ []) y out
-forward_push a b forward_none k before out answer worked = forward_more before answer worked forward_none
-forward_push a b (forward_more before' answer' first rest) k before out answer worked = forward_more before' answer' first (forward_push a b rest k before out answer worked)
+pub back_next : {S : Type 0} (a : Figures S) (b : Arrays S) (sheets : List ℕ) (sheet : ℕ) (x before out : List S) (answer : ℕ) → CarriedBack a b (reverse sheets) x before → ColumnWorked a b sheet before before (Ok answer) out → CarriedBack a b (reverse (sheets ++ sheet ∷ [])) x out
+back_next a b sheets sheet x before out answer rest worked = rw reverse-append (back_more before answer rest worked)
 
 -- one sheet more at the end
-pub forward_next : {S : Type 0} (a : Figures S) (b : Arrays S) (line : List ℕ) (i : ℕ) → i < length line → (y given before out : List S) (answer : ℕ) → CarriedForward a b (take i line) y before → given ≡ before → RowWorked a b (get_or line i 0) given before (Ok answer) out → CarriedForward a b (take (i + 1) line) y out
-forward_next a b line i low y given before out answer rest e worked = rw (take_more line i 0 low) (forward_push a b rest (get_or line i 0) before out answer (rw e at worked))
+pub forward_next : {S : Type 0} (a : Figures S) (b : Arrays S) {sheets : List ℕ} {y before : List S} → CarriedForward a b sheets y before → {sheet answer : ℕ} {out : List S} → RowWorked a b sheet before before (Ok answer) out → CarriedForward a b (sheets ++ sheet ∷ []) y out
+forward_next a b forward_none worked = forward_more _ _ worked forward_none
+forward_next a b (forward_more before answer first rest) worked = forward_more before answer first (forward_next a b rest worked)

@@ -56,7 +56,7 @@ fn carry_back<F: Arithmetic>(
     ensures { BackDone F.Arithmetic.figures (record { header = header.now; index = index.now; figures = figures.now }) line.now x.now out.new result }
 {
     out.copy_from_slice(x);
-    for &sheet in line.iter().rev() {
+    for sheet in line.iter().rev().copied() {
         spare.copy_from_slice(out);
         column_working(header, index, figures, sheet, spare, out)?;
     }
@@ -78,7 +78,7 @@ fn carry_forward<F: Arithmetic>(
     ensures { ForwardDone F.Arithmetic.figures (record { header = header.now; index = index.now; figures = figures.now }) line.now y.now out.new result }
 {
     out.copy_from_slice(y);
-    for &sheet in line {
+    for sheet in line.iter().copied() {
         spare.copy_from_slice(out);
         row_working(header, index, figures, sheet, spare, out)?;
     }

@@ -9,4 +9,4 @@ loop-sheet-init g c = rw c.copy_from_slice.ensures.after back_none
 pub loop-sheet-preserved : goal.loop-sheet-preserved
 loop-sheet-preserved g c =
     let b : Arrays g.row.F.Denot = record { header = c.args.header.now; index = c.args.index.now; figures = c.args.figures.now } in
-    back_next g.F.Arithmetic.figures b (λ k. k.now) c.loop-sheet.yielded c.in-Some.field-0 _ _ _ _ _ c.loop-sheet.invariant c.copy_from_slice-in-loop-sheet.ensures.after c.in_ok-column_working.ensures
+    back_next g.F.Arithmetic.figures b c.loop-sheet.yielded c.in-Some.sheet _ _ _ _ c.loop-sheet.invariant (rw c.copy_from_slice-in-loop-sheet.ensures.after at c.in_ok-column_working.ensures)

@@ -1,6 +1,5 @@
-use Rattle.std.proofs.Common.{take}
 use Rattle.clerks.specs.Carrying.{CarriedForward}
 use Rattle.clerks.proofs.line.carry_forward.Given as goal
 
 abbrev pub invariant-loop-sheet : goal.invariant-loop-sheet
-invariant-loop-sheet g l = CarriedForward g.F.Arithmetic.figures (record { header = l.header; index = l.index; figures = l.figures }) (take l.sheet-index l.line) l.y l.out
+invariant-loop-sheet g l = CarriedForward g.F.Arithmetic.figures (record { header = l.header; index = l.index; figures = l.figures }) l.yielded l.y l.out
