@@ -23,6 +23,11 @@ answered [] rs = []
 answered (c ∷ cs) [] = []
 answered (c ∷ cs) (r ∷ rs) = (asked c, r) ∷ answered cs rs
 
+-- there is one place for an answer for each call; or the places are refused
+abbrev pub PlacesChecked : {S : Type 0} → List (told.Call S) → List (Result ℕ Refusal) → Result (Unit {0}) Refusal → Type 0
+PlacesChecked calls places (Ok u) = length places ≡ length calls
+PlacesChecked calls places (Err why) = (length places ≢ length calls) × (why ≡ Lengths 1)
+
 -- the calls were carried out one after another, each with its answer; or there is not one place for an answer for each
 -- call, and nothing changed
 abbrev pub CarriedOut : {S : Type 0} → Figures S → Arrays S → List (told.Call S) → List (Result ℕ Refusal) → Result (Unit {0}) Refusal → Arrays S → List (Result ℕ Refusal) → Type 0

@@ -2,13 +2,13 @@ ghost use Rattle.clerks.specs.Working.{DeskChecked, Worked, BothOutcome};
 
 use crate::call::Call;
 use crate::line::line_totals;
-use crate::run::carry_out_all;
+use crate::run::{carry_out_all, check_places};
 use arithmetic::Arithmetic;
 use book::{Refusal, check_open, open};
 
 // Where the work on two books stopped: at the first book or the second, of which neither was touched, or at the line
 // of sheets, after both were worked.
-#[derive(Clone, Copy)]
+#[derive(Clone, Copy, Debug, PartialEq, Eq)]
 pub enum Halt {
     First(Refusal),
     Second(Refusal),
@@ -26,9 +26,7 @@ fn check_desk<F: Arithmetic>(
 ) -> Result<(), Refusal>
     ensures { DeskChecked F.Arithmetic.figures order calls.now (record { book = record { header = header.now; index = index.now; figures = figures.now }; answers = answers.now }) result }
 {
-    if answers.len() != calls.len() {
-        return Err(Refusal::Lengths(1));
-    }
+    check_places(calls, answers)?;
     check_open(header, index, figures, order)
 }
 

@@ -1,5 +1,5 @@
 ghost use Rattle.book.specs.Calls.{Outcome};
-ghost use Rattle.clerks.specs.Asked.{asked, CarriedOut};
+ghost use Rattle.clerks.specs.Asked.{asked, PlacesChecked, CarriedOut};
 
 use crate::call::Call;
 use arithmetic::Arithmetic;
@@ -28,8 +28,22 @@ pub fn carry_out<F: Arithmetic>(
     }
 }
 
+// Whether there is one place for an answer for each call.
+pub(crate) fn check_places<F: Arithmetic>(
+    calls: &[Call<'_, F>],
+    answers: &[Result<usize, Refusal>],
+) -> Result<(), Refusal>
+    ensures { PlacesChecked calls.now answers.now result }
+{
+    if answers.len() != calls.len() {
+        return Err(Refusal::Lengths(1));
+    }
+    Ok(())
+}
+
 // Carries out a list of calls one after another, and writes down what each answered. There has to be one place for an
-// answer for each call.
+// answer for each call. The places go by their index: in a loop over `answers.iter_mut().zip(calls)`, which was tried,
+// a proof has no name for what was written.
 pub fn carry_out_all<F: Arithmetic>(
     header: &mut [u32],
     index: &mut [u32],
@@ -39,9 +53,7 @@ pub fn carry_out_all<F: Arithmetic>(
 ) -> Result<(), Refusal>
     ensures { CarriedOut F.Arithmetic.figures (record { header = header.old; index = index.old; figures = figures.old }) calls.now answers.old result (record { header = header.new; index = index.new; figures = figures.new }) answers.new }
 {
-    if answers.len() != calls.len() {
-        return Err(Refusal::Lengths(1));
-    }
+    check_places(calls, answers)?;
     for (i, &call) in calls.iter().enumerate() {
         answers[i] = carry_out(header, index, figures, call);
     }
