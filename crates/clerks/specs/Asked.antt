@@ -1,5 +1,6 @@
 -- The calls of the code, read as the calls that the theorems speak of, and lists of them carried out.
-use Rattle.std.specs.Prelude.{◌≡◌, ℕ, List, [], ◌∷◌, length, Ok, Err, Result, ◌≢◌}
+use Rattle.std.specs.Prelude.{◌≡◌, ℕ, List, map, length, Ok, Err, Result, ◌≢◌}
+use Rattle.std.specs.List.{zip}
 use Rattle.arithmetic.specs.Semiring.{Figures}
 use Rattle.sheet.specs.declared.refusal.Refusal.{Refusal}
 use Rattle.sheet.specs.declared.refusal.Refusal.TheVariants.{Lengths}
@@ -19,9 +20,7 @@ asked way.Strike = Strike
 
 -- each call with its answer
 abbrev pub answered : {S : Type 0} → List (told.Call S) → List (Result ℕ Refusal) → List (Call S × Result ℕ Refusal)
-answered [] rs = []
-answered (c ∷ cs) [] = []
-answered (c ∷ cs) (r ∷ rs) = (asked c, r) ∷ answered cs rs
+answered calls answers = zip (map asked calls) answers
 
 -- there is one place for an answer for each call; or the places are refused
 abbrev pub PlacesChecked : {S : Type 0} → List (told.Call S) → List (Result ℕ Refusal) → Result (Unit {0}) Refusal → Type 0

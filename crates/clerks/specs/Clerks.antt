@@ -19,8 +19,7 @@ pub data Run {S : Type 0} (a : Figures S) : Arrays S → List (Call S × Result 
 
 -- every call of a list is of this kind
 abbrev pub Each : {S : Type 0} → (Call S → Type 0) → List (Call S × Result ℕ Refusal) → Type 0
-Each kind [] = Unit {0}
-Each kind (c ∷ cs) = kind c.0 × Each kind cs
+Each kind cs = AllByRecursion (λ c. kind c.0) cs
 
 -- what a clerk's list may hold: any call but open
 abbrev pub NotOpen : {S : Type 0} → Call S → Type 0

@@ -1,5 +1,6 @@
 -- The call that carries two vectors through a line of sheets and weighs them: what it answers, and what it leaves.
 use Rattle.std.specs.Prelude.{◌≡◌, ℕ, ◌+◌, ◌<◌, ◌⊎◌, List, [], ◌∷◌, ◌++◌, length, Ok, Err, Result, ◌≢◌, slice_index}
+use Rattle.std.specs.List.{AllByRecursion}
 use Rattle.arithmetic.specs.Semiring.{Figures, meanings}
 use Rattle.sheet.specs.declared.refusal.Refusal.{Refusal}
 use Rattle.sheet.specs.declared.refusal.Refusal.TheVariants.{Lengths, Sheet}
@@ -19,8 +20,7 @@ FirstUneven n [] at p = ⊥
 FirstUneven n (v ∷ vs) at p = ((length v ≢ n) × (p ≡ at)) ⊎ ((length v ≡ n) × FirstUneven n vs (at + 1) p)
 
 abbrev pub Even : {S : Type 0} → ℕ → List (List S) → Type 0
-Even n [] = Unit {0}
-Even n (v ∷ vs) = (length v ≡ n) × Even n vs
+Even n vectors = AllByRecursion (λ v. length v ≡ n) vectors
 
 -- one of the vectors is not as long as n
 abbrev pub uneven : {S : Type 0} → ℕ → List (List S) → Line

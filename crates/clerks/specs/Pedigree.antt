@@ -1,5 +1,6 @@
 -- Where a sheet comes from: the lists that were loaded for it, as a bag of chains.
 use Rattle.std.specs.Prelude.{◌≡◌, ℕ, ◌-◌, Bool, false, cond, not, List, [], ◌∷◌, ◌++◌, map, reverse, length, take, is_ok, Result, slice_index_or}
+use Rattle.std.specs.List.{flat_map}
 use Rattle.arithmetic.specs.Semiring.{Semiring, Figures}
 use Rattle.matrix.specs.Tables.{Table, unit_table, product, flipped}
 use Rattle.matrix.specs.Bags.{bag_total}
@@ -29,8 +30,7 @@ Pedigree F = List (Chain F)
 
 -- every chain of the first followed by every chain of the second
 abbrev pub followed : {F : Type 0} → Pedigree F → Pedigree F → Pedigree F
-followed [] q = []
-followed (c ∷ p) q = map (λ d. c ++ d) q ++ followed p q
+followed p q = flat_map (λ c. map (λ d. c ++ d) q) p
 
 -- every chain reversed and every link turned over
 abbrev pub turned_over : {F : Type 0} → Pedigree F → Pedigree F
