@@ -1,6 +1,5 @@
 -- Calls of the code carried out one more at a time.
-use Rattle.std.proofs.Common.{◌≡◌, ℕ, zero, suc, ◌+◌, ◌<◌, ◌≤◌, List, [], ◌∷◌, ◌++◌, length, get_or, take, set, Result, sym, refl, ap, ◌∙◌, add-one, arith}
-use Rattle.std.proofs.lemmas.List.{take_all}
+use Rattle.std.proofs.Common.{◌≡◌, ℕ, zero, suc, ◌+◌, ◌<◌, List, [], ◌∷◌, ◌++◌, length, get_or, take, set, Result, sym, refl, ap, ◌∙◌, add-one, arith}
 use Rattle.arithmetic.specs.Semiring.{Figures}
 use Rattle.sheet.specs.declared.refusal.Refusal.{Refusal}
 use Rattle.book.specs.Book.{Arrays}
@@ -27,12 +26,6 @@ run_next a b c d cs rs i call r low long read run out =
     let more = run_more a run (asked call) r d out in
     let there : answered (take (i + 1) cs) (take (i + 1) (set rs i r)) ≡ answered (take i cs) (take i rs) ++ (asked call, r) ∷ [] = rw add-one (answered_more cs rs i call r low long ∙ ap (λ x. answered (take i cs) (take i rs) ++ (asked x, r) ∷ []) (sym read)) in
     rw there more
-
-pub run_all : {S : Type 0} (a : Figures S) (b c : Arrays S) (cs : List (told.Call S)) (rs : List (Result ℕ Refusal)) (i : ℕ) → length cs ≤ i → length rs ≡ length cs → Run a b (answered (take i cs) (take i rs)) c → Run a b (answered cs rs) c
-run_all a b c cs rs i past long run =
-    let all = take_all i cs past in
-    let all' : take i rs ≡ rs = take_all i rs (omega arith) in
-    rw (all, all') at run
 
 -- no call of the code is open
 asked_not_open : {S : Type 0} (call : told.Call S) → NotOpen (asked call)

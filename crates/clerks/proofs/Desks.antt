@@ -1,5 +1,6 @@
 -- Two clerks' books that were opened and worked by calls of the code.
 use Rattle.std.proofs.Common.{◌≡◌, ℕ, true, false, List, Ok, Err, Result, is_ok, IsErrAnd, MatchResult, refl}
+use Rattle.std.proofs.lemmas.Result.{err_from_is_err_and}
 use Rattle.arithmetic.specs.Semiring.{Figures}
 use Rattle.sheet.specs.declared.refusal.Refusal.{Refusal}
 use Rattle.sheet.specs.declared.refusal.Refusal.TheVariants.{Lengths}
@@ -43,3 +44,10 @@ pub both_outcome : {S : Type 0} (a : Figures S) (n : ℕ) (bs cs : List (told.Ca
 both_outcome a n bs cs sheets x y before after worked (Ok totals) out s is = rw is (worked, out)
 both_outcome a n bs cs sheets x y before after worked (Err why) out (Ok totals) is = absurd is
 both_outcome a n bs cs sheets x y before after worked (Err why) out (Err h) is = rw is (worked, out)
+
+-- the work on the second book sent back before either was touched
+pub second_halted : {S : Type 0} (a : Figures S) (n : ℕ) (bs cs : List (told.Call S)) (sheets : List ℕ) (x y : List S) (before : Desks S) → Granted (desk_lines a n bs before.first) → (r : Result (Unit {0}) Refusal) → DeskChecked a n cs before.second r → (h : Halt) → MatchResult r (λ u. Err h ≡ Ok u) (λ why. h ≡ halt.Second why) → (s : Result (S × S) Halt) → IsErrAnd s (λ k. k ≡ h) → BothOutcome a n bs cs sheets x y before s before
+second_halted a n bs cs sheets x y before granted (Ok u) checked h is s came = absurd (cc is)
+second_halted a n bs cs sheets x y before granted (Err why) checked h is s came =
+    let p = err_from_is_err_and s came in
+    rw (p.1, p.2, is) (granted, checked, refl)

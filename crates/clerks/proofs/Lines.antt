@@ -1,15 +1,18 @@
 -- A line of sheets, one sheet after another.
-use Rattle.std.proofs.Common.{◌≡◌, ℕ, suc, ◌+◌, ◌<◌, not, nat_eq, nat_le, Some, None, List, [], ◌∷◌, ◌++◌, length, map, reverse, get_or, Ok, Err, Result, ◌∙◌, inl, inr, ⊎_elim, arith}
+use Rattle.std.proofs.Common.{◌≡◌, ℕ, suc, ◌+◌, ◌-◌, ◌<◌, not, nat_eq, nat_le, Some, None, List, [], ◌∷◌, ◌++◌, length, map, reverse, get_or, Ok, Err, Result, ◌∙◌, inl, inr, ⊎_elim, arith}
 use Rattle.std.specs.List.{find, position_from}
-use Rattle.std.proofs.lemmas.List.{reverse-append}
+use Rattle.std.proofs.lemmas.List.{reverse-append, length-reverse, get_or-reverse, get_or_default}
 use Rattle.std.proofs.lemmas.Bool.Decides.{leb_tells, eqb_tells}
 use Rattle.arithmetic.specs.Semiring.{Figures}
 use Rattle.sheet.specs.declared.refusal.Refusal.{Refusal}
 use Rattle.sheet.specs.Weighing.{Weighs}
 use Rattle.book.specs.Book.{Arrays, SoundBook, order_of, sheets_of}
-use Rattle.book.specs.Lines.{Granted, FirstMissing, guard, missing}
-use Rattle.book.specs.Workings.{ColumnWorked, RowWorked}
+use Rattle.book.specs.Lines.{Granted, SentBack, FirstMissing, guard, missing}
+use Rattle.book.specs.Workings.{working_lines, ColumnWorked, RowWorked}
 use Rattle.book.proofs.Passing.{granted_both, guard_passes, sent_after}
+use Rattle.book.proofs.Sheets.{sheet_lies}
+use Rattle.book.proofs.Singles.{not_both}
+use Rattle.book.proofs.Worked.{working_granted}
 use Rattle.clerks.specs.Carrying.{CarriedBack, back_more, CarriedForward, forward_none, forward_more}
 use Rattle.clerks.specs.LineTotals.{FirstUneven, Even, uneven, SheetsChecked, line_lines, LineStands, LineChecked, LineWeighed}
 use Rattle.clerks.proofs.Carrying.{carried_totals}
@@ -67,6 +70,14 @@ module _ {S : Type 0} (a : Figures S) (b : Arrays S) (line : List ℕ) where
   line_weighed x y back forward spare first second long long' went_back went_forward copied weighs weighs' =
       let both = carried_totals a b line x y back forward long long' went_back went_forward in
       record { back = went_back; forward = went_forward; spare = copied; first = weighs.1 ∙ both.0; second = weighs'.1 ∙ both.1 }
+
+  -- a sheet that was met on the way back along a line that stands is there, and no working on it is sent back
+  pub never_sent : LineStands a b line → (j sheet : ℕ) → (j < length (reverse line)) × (sheet ≡ get_or (reverse line) j sheet) → (given out : List S) → length given ≡ order_of b → length out ≡ order_of b → (why : Refusal) → SentBack (working_lines a b sheet given out) why → ⊥
+  never_sent stands j sheet met given out long long' why sent =
+      let low : length line - 1 - j < length line = omega (arith, met.0, length-reverse line) in
+      let is : sheet ≡ get_or line (length line - 1 - j) 0 = met.1 ∙ (get_or-reverse line j sheet (omega (arith, met.0, length-reverse line)) ∙ get_or_default line _ sheet 0 low) in
+      let there : sheet < sheets_of b = rw is (stands.there _ low) in
+      not_both (working_lines a b sheet given out) why (working_granted a b sheet given out _ _ (sheet_lies a b stands.sound sheet there, long, long')) sent
 
 -- one sheet more at the front
 pub back_next : {S : Type 0} (a : Figures S) (b : Arrays S) (sheets : List ℕ) (sheet : ℕ) (x before out : List S) (answer : ℕ) → CarriedBack a b (reverse sheets) x before → ColumnWorked a b sheet before before (Ok answer) out → CarriedBack a b (reverse (sheets ++ sheet ∷ [])) x out

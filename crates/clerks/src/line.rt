@@ -63,7 +63,9 @@ fn carry_back<F: Arithmetic>(
     Ok(())
 }
 
-// Row working along the line, from its first sheet to its last: each takes what the one before it gave.
+// Row working along the line, from its first sheet to its last: each takes what the one before it gave. The two walks
+// stay apart: one walk with the order and the working as parameters would have to say, by the predicates of an iterator
+// and a closure, what each turn leaves, and that is longer than the loop that they share.
 fn carry_forward<F: Arithmetic>(
     header: &[u32],
     index: &[u32],
