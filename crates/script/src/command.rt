@@ -1,10 +1,12 @@
 // The commands of a script: how they are read, and how the record names them.
+ghost use Rattle.std.specs.Prelude.{◌≤◌};
+ghost use Rattle.script.specs.Left.{left};
+
 use crate::fault::Fault;
-use crate::lines::Line;
+use crate::lines::{Line, Lines};
 use crate::listed::{Counted, Listed};
 use crate::lists::{Entries, Lists, Working};
 use spelling::Figure;
-use std::alloc::Global;
 use std::fmt;
 
 #[derive(Drop)]
@@ -49,93 +51,68 @@ const COMMANDS: &str =
     "'open', 'unit', 'load', 'strike', 'cell', 'row', 'weigh', 'table' or 'arrays'";
 
 impl<F: Figure> Command<F> {
-    fn read_open(heap: Global, line: &Line<'_>) -> Result<Command<F>, Fault> {
-        let order = line.number_at(heap, 0)? as usize;
-        let capacity = line.capacity_at(heap, 1)? as usize;
-        line.ends_after(heap, 2)?;
+    fn read_open(line: &Line<'_>) -> Result<Command<F>, Fault> {
+        let order = line.number_at(0)? as usize;
+        let capacity = line.capacity_at(1)? as usize;
+        line.ends_after(2)?;
         Ok(Command::Open { order, capacity })
     }
 
-    // The command of a line on which numbers follow its name.
-    fn read_with_numbers(heap: Global, line: &Line<'_>) -> Result<Command<F>, Fault> {
+    // The command that a line begins, with what the lines after it give up to `end`.
+    pub(crate) fn read(line: &Line<'_>, lines: &mut Lines<'_, '_>) -> Result<Command<F>, Fault>
+        ensures { left lines.new ≤ left lines.old }
+    {
         match line.head {
+            "open" => Command::read_open(line),
+            "unit" => line.ends_after(0).map(|()| Command::Unit),
+            "load" => {
+                line.ends_after(0)?;
+                let entries = Entries::new(lines.heap);
+                lines.read_up_to_end(entries).map(Command::Load)
+            }
             "add" => {
-                let [first, second] = line.numbers::<2>(heap)?;
+                let [first, second] = line.numbers::<2>()?;
                 Ok(Command::Add { first, second })
             }
             "multiply" => {
-                let [first, second] = line.numbers::<2>(heap)?;
+                let [first, second] = line.numbers::<2>()?;
                 Ok(Command::Multiply { first, second })
             }
             "flip" => {
-                let [sheet] = line.numbers::<1>(heap)?;
+                let [sheet] = line.numbers::<1>()?;
                 Ok(Command::Flip { sheet })
             }
+            "strike" => line.ends_after(0).map(|()| Command::Strike),
             "cell" => {
-                let [sheet, row, column] = line.numbers::<3>(heap)?;
+                let [sheet, row, column] = line.numbers::<3>()?;
                 Ok(Command::Cell { sheet, row, column })
             }
             "row" => {
-                let [sheet, row] = line.numbers::<2>(heap)?;
+                let [sheet, row] = line.numbers::<2>()?;
                 Ok(Command::Row { sheet, row })
             }
             "column_working" => {
-                let [sheet] = line.numbers::<1>(heap)?;
-                Ok(Command::ColumnWorking(Working::new(heap, sheet)))
+                let [sheet] = line.numbers::<1>()?;
+                let working = Working::new(lines.heap, sheet);
+                lines.read_up_to_end(working).map(Command::ColumnWorking)
             }
             "row_working" => {
-                let [sheet] = line.numbers::<1>(heap)?;
-                Ok(Command::RowWorking(Working::new(heap, sheet)))
+                let [sheet] = line.numbers::<1>()?;
+                let working = Working::new(lines.heap, sheet);
+                lines.read_up_to_end(working).map(Command::RowWorking)
+            }
+            "weigh" => {
+                line.ends_after(0)?;
+                let lists = Lists::new(lines.heap);
+                lines.read_up_to_end(lists).map(Command::Weigh)
             }
             "table" => {
-                let [sheet] = line.numbers::<1>(heap)?;
+                let [sheet] = line.numbers::<1>()?;
                 Ok(Command::Table { sheet })
             }
-            other => Err(Fault::word(heap, line.number, COMMANDS, other)),
+            "arrays" => line.ends_after(0).map(|()| Command::Arrays),
+            other => Err(line.fault(COMMANDS, other)),
         }
-    }
-
-    // The command of a line; one that goes on up to `end` is still without what follows.
-    pub(crate) fn read_line(heap: Global, line: &Line<'_>) -> Result<Command<F>, Fault> {
-        let command = match line.head {
-            "open" => return Command::read_open(heap, line),
-            "unit" => Command::Unit,
-            "load" => Command::Load(Entries::new(heap)),
-            "strike" => Command::Strike,
-            "weigh" => Command::Weigh(Lists::new(heap)),
-            "arrays" => Command::Arrays,
-            _ => return Command::read_with_numbers(heap, line),
-        };
-        line.ends_after(heap, 0)?;
-        Ok(command)
-    }
-
-    // Whether the command goes on up to `end`.
-    pub(crate) fn goes_on(&self) -> bool {
-        matches!(
-            self,
-            Command::Load(_)
-                | Command::ColumnWorking(_)
-                | Command::RowWorking(_)
-                | Command::Weigh(_)
-        )
-    }
-
-    // Adds what a line says to a command that goes on up to `end`. Answers whether more may come.
-    pub(crate) fn read_more(&mut self, heap: Global, line: &Line<'_>) -> Result<bool, Fault> {
-        if line.head == "end" {
-            line.ends_after(heap, 0)?;
-            return Ok(false);
-        }
-        match self {
-            Command::Load(entries) => entries.read_line(heap, line)?,
-            Command::ColumnWorking(working) | Command::RowWorking(working) => {
-                working.read_line(heap, line)?
-            }
-            Command::Weigh(lists) => lists.read_line(heap, line)?,
-            _ => {}
-        }
-        Ok(true)
     }
 }
 

@@ -23,30 +23,14 @@ pub enum Fault {
 
 impl Fault {
     pub(crate) fn word(heap: Global, number: usize, expected: &'static str, word: &str) -> Fault {
-        match String::from_str(heap, word) {
-            Ok(word) => Fault::Line {
+        String::from_str(heap, word).map_or(
+            Fault::Memory,
+            |word| Fault::Line {
                 number,
                 expected,
                 found: Found::Word(word),
             },
-            Err(_) => Fault::Memory,
-        }
-    }
-
-    pub(crate) fn end_of_line(number: usize, expected: &'static str) -> Fault {
-        Fault::Line {
-            number,
-            expected,
-            found: Found::EndOfLine,
-        }
-    }
-
-    pub(crate) fn end_of_input(number: usize, expected: &'static str) -> Fault {
-        Fault::Line {
-            number,
-            expected,
-            found: Found::EndOfInput,
-        }
+        )
     }
 }
 

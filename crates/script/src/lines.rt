@@ -1,7 +1,11 @@
 // The lines of a script and their words.
-use crate::fault::Fault;
+ghost use Rattle.std.specs.Prelude.{◌<◌, ◌≤◌, IfSome};
+ghost use Rattle.script.specs.Left.{left};
+
+use crate::fault::{Fault, Found};
 use spelling::{Figure, WHOLE_NUMBER, whole_number};
 use std::alloc::{AllocError, Global};
+use std::slice;
 
 const LARGEST_CAPACITY: u32 = 1_000_000;
 
@@ -13,18 +17,14 @@ const END_OF_LINE: &str = "the end of the line";
 #[derive(Drop)]
 pub(crate) struct Line<'a> {
     // Counted from 1, with the lines that do not count.
-    pub(crate) number: usize,
+    number: usize,
     pub(crate) head: &'a str,
     rest: Vec<&'a str>,
 }
 
 impl<'a> Line<'a> {
     // The words of a line; none where it does not count.
-    pub(crate) fn cut(
-        heap: Global,
-        number: usize,
-        text: &'a str,
-    ) -> Result<Option<Line<'a>>, AllocError> {
+    fn cut(heap: Global, number: usize, text: &'a str) -> Result<Option<Line<'a>>, AllocError> {
         let mut words = text.split_whitespace();
         match words.next() {
             Some(head) if !head.starts_with('#') => {
@@ -38,64 +38,149 @@ impl<'a> Line<'a> {
 
 // The words after the head have places, from 0 on.
 impl Line<'_> {
+    pub(crate) fn begins_part(&self) -> bool {
+        self.head == "arithmetic"
+    }
+
+    // That a word of the line is not what was expected.
+    pub(crate) fn fault(&self, expected: &'static str, word: &str) -> Fault {
+        Fault::word(*self.rest.allocator(), self.number, expected, word)
+    }
+
     pub(crate) fn word_at(&self, place: usize, expected: &'static str) -> Result<&str, Fault> {
-        match self.rest.get(place) {
-            Some(word) => Ok(*word),
-            None => Err(Fault::end_of_line(self.number, expected)),
-        }
+        let word = self.rest.get(place).copied();
+        word.ok_or_else(|| Fault::Line {
+            number: self.number,
+            expected,
+            found: Found::EndOfLine,
+        })
     }
 
-    pub(crate) fn number_at(&self, heap: Global, place: usize) -> Result<u32, Fault> {
-        let word = self.word_at(place, WHOLE_NUMBER)?;
-        match whole_number(word) {
-            Some(n) => Ok(n),
-            None => Err(Fault::word(heap, self.number, WHOLE_NUMBER, word)),
-        }
+    fn number_up_to(
+        &self,
+        largest: u32,
+        place: usize,
+        expected: &'static str,
+    ) -> Result<u32, Fault> {
+        let word = self.word_at(place, expected)?;
+        let number = whole_number(word).filter(|n| *n <= largest);
+        number.ok_or_else(|| self.fault(expected, word))
     }
 
-    pub(crate) fn capacity_at(&self, heap: Global, place: usize) -> Result<u32, Fault> {
-        let word = self.word_at(place, CAPACITY)?;
-        match whole_number(word) {
-            Some(n) if n <= LARGEST_CAPACITY => Ok(n),
-            _ => Err(Fault::word(heap, self.number, CAPACITY, word)),
-        }
+    pub(crate) fn number_at(&self, place: usize) -> Result<u32, Fault> {
+        self.number_up_to(u32::MAX, place, WHOLE_NUMBER)
     }
 
-    pub(crate) fn figure_at<F: Figure>(&self, heap: Global, place: usize) -> Result<F, Fault> {
+    pub(crate) fn capacity_at(&self, place: usize) -> Result<u32, Fault> {
+        self.number_up_to(LARGEST_CAPACITY, place, CAPACITY)
+    }
+
+    pub(crate) fn figure_at<F: Figure>(&self, place: usize) -> Result<F, Fault> {
         let word = self.word_at(place, F::EXPECTED)?;
-        match F::read(word) {
-            Some(figure) => Ok(figure),
-            None => Err(Fault::word(heap, self.number, F::EXPECTED, word)),
-        }
+        F::read(word).ok_or_else(|| self.fault(F::EXPECTED, word))
     }
 
     // The words after the head, which are to be N numbers.
-    pub(crate) fn numbers<const N: usize>(&self, heap: Global) -> Result<[usize; N], Fault> {
+    pub(crate) fn numbers<const N: usize>(&self) -> Result<[usize; N], Fault> {
         let mut numbers = [0; N];
-        for place in 0..N {
-            numbers[place] = self.number_at(heap, place)? as usize;
+        for (place, number) in numbers.iter_mut().enumerate() {
+            *number = self.number_at(place)? as usize;
         }
-        self.ends_after(heap, N)?;
+        self.ends_after(N)?;
         Ok(numbers)
     }
 
     // Reads the words after the head, one at least, as figures, and adds them to `list`.
-    pub(crate) fn read_figures<F: Figure>(
-        &self,
-        heap: Global,
-        list: &mut Vec<F>,
-    ) -> Result<(), Fault> {
+    pub(crate) fn read_figures<F: Figure>(&self, list: &mut Vec<F>) -> Result<(), Fault> {
         for place in 0..self.rest.len().max(1) {
-            list.push(self.figure_at(heap, place)?)?;
+            list.push(self.figure_at(place)?)?;
         }
         Ok(())
     }
 
     // There are no more than so many words after the head.
-    pub(crate) fn ends_after(&self, heap: Global, words: usize) -> Result<(), Fault> {
+    pub(crate) fn ends_after(&self, words: usize) -> Result<(), Fault> {
         match self.rest.get(words) {
-            Some(more) => Err(Fault::word(heap, self.number, END_OF_LINE, *more)),
+            Some(more) => Err(self.fault(END_OF_LINE, *more)),
             None => Ok(()),
         }
+    }
+}
+
+// The lines of a text that count.
+pub(crate) fn cut(heap: Global, text: &str) -> Result<Vec<Line<'_>>, AllocError> {
+    let mut lines = Vec::new(heap);
+    for (i, words) in text.lines().enumerate() {
+        if let Some(line) = Line::cut(heap, i + 1, words)? {
+            lines.push(line)?;
+        }
+    }
+    Ok(lines)
+}
+
+// What the lines after a command give, up to a line `end`.
+pub(crate) trait Given: Drop {
+    // Adds what a line gives.
+    fn read_line(&mut self, line: &Line<'_>) -> Result<(), Fault>;
+}
+
+// Lines that are read one after the other.
+#[derive(Drop)]
+pub(crate) struct Lines<'a, 't> {
+    rest: slice::Iter<'a, Line<'t>>,
+    // The number of the line after the last one of the text.
+    end: usize,
+    // For what is read.
+    pub(crate) heap: Global,
+}
+
+impl<'a, 't> Lines<'a, 't> {
+    pub(crate) fn new(heap: Global, lines: &'a [Line<'t>], text: &str) -> Lines<'a, 't> {
+        Lines {
+            rest: lines.iter(),
+            end: text.lines().count().saturating_add(1),
+            heap,
+        }
+    }
+
+    // That there are no more lines where one was expected.
+    pub(crate) fn ended(&self, expected: &'static str) -> Fault {
+        Fault::Line {
+            number: self.end,
+            expected,
+            found: Found::EndOfInput,
+        }
+    }
+
+    pub(crate) fn next_line(&mut self) -> Option<&'a Line<'t>>
+        ensures shorter { IfSome result (λ _. left self.new < left self.old) }
+        ensures no_longer { left self.new ≤ left self.old }
+    {
+        self.rest.next()
+    }
+
+    // The next line, unless a part begins with it.
+    pub(crate) fn next_of_part(&mut self) -> Option<&'a Line<'t>>
+        ensures shorter { IfSome result (λ _. left self.new < left self.old) }
+        ensures no_longer { left self.new ≤ left self.old }
+    {
+        match self.rest.as_slice().first() {
+            Some(line) if line.begins_part() => None,
+            _ => self.next_line(),
+        }
+    }
+
+    // Adds what the lines up to `end` give.
+    pub(crate) fn read_up_to_end<G: Given>(&mut self, mut given: G) -> Result<G, Fault>
+        ensures { left self.new ≤ left self.old }
+    {
+        while let Some(line) = self.next_line() {
+            if line.head == "end" {
+                line.ends_after(0)?;
+                return Ok(given);
+            }
+            given.read_line(line)?;
+        }
+        Err(self.ended("'end'"))
     }
 }

@@ -11,14 +11,12 @@ pub struct Counted(pub usize, pub &'static str, pub &'static str);
 
 impl<T: fmt::Display> fmt::Display for Listed<'_, T> {
     fn fmt<W: fmt::Write>(&self, f: &mut fmt::Formatter<W>) -> fmt::Result {
-        if self.0.is_empty() {
-            return write!(f, "none");
-        }
-        for (i, item) in self.0.iter().enumerate() {
-            if i > 0 {
-                write!(f, ", ")?;
-            }
-            write!(f, "{item}")?;
+        let Some((first, others)) = self.0.split_first() else {
+            return f.write_str("none");
+        };
+        write!(f, "{first}")?;
+        for item in others {
+            write!(f, ", {item}")?;
         }
         Ok(())
     }

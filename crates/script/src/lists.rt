@@ -1,10 +1,10 @@
 // What a command that goes on up to `end` is given line by line.
 use crate::fault::Fault;
-use crate::lines::Line;
+use crate::lines::{Given, Line};
 use spelling::Figure;
 use std::alloc::Global;
 
-// The entries of a load: the rows, the columns and the figures, each in its own list.
+// The entries of a load: the rows, the columns and the figures, each in its own list, as the library is lent them.
 #[derive(Drop)]
 pub struct Entries<F> {
     pub rows: Vec<u32>,
@@ -27,11 +27,11 @@ pub struct Working<F> {
 }
 
 // The row, the column and the figure after `cell`.
-fn read_entry<F: Figure>(heap: Global, line: &Line<'_>) -> Result<(u32, u32, F), Fault> {
-    let row = line.number_at(heap, 0)?;
-    let column = line.number_at(heap, 1)?;
-    let value = line.figure_at(heap, 2)?;
-    line.ends_after(heap, 3)?;
+fn read_entry<F: Figure>(line: &Line<'_>) -> Result<(u32, u32, F), Fault> {
+    let row = line.number_at(0)?;
+    let column = line.number_at(1)?;
+    let value = line.figure_at(2)?;
+    line.ends_after(3)?;
     Ok((row, column, value))
 }
 
@@ -43,18 +43,6 @@ impl<F: Figure> Entries<F> {
             values: Vec::new(heap),
         }
     }
-
-    // Adds the entry of a line `cell ROW COLUMN FIGURE`.
-    pub(crate) fn read_line(&mut self, heap: Global, line: &Line<'_>) -> Result<(), Fault> {
-        if line.head != "cell" {
-            return Err(Fault::word(heap, line.number, "'cell' or 'end'", line.head));
-        }
-        let (row, column, value) = read_entry(heap, line)?;
-        self.rows.push(row)?;
-        self.columns.push(column)?;
-        self.values.push(value)?;
-        Ok(())
-    }
 }
 
 impl<F: Figure> Lists<F> {
@@ -62,15 +50,6 @@ impl<F: Figure> Lists<F> {
         Lists {
             first: Vec::new(heap),
             second: Vec::new(heap),
-        }
-    }
-
-    // Adds the figures of a line `first FIGURE …` or `second FIGURE …`.
-    pub(crate) fn read_line(&mut self, heap: Global, line: &Line<'_>) -> Result<(), Fault> {
-        match line.head {
-            "first" => line.read_figures(heap, &mut self.first),
-            "second" => line.read_figures(heap, &mut self.second),
-            other => Err(Fault::word(heap, line.number, "'first', 'second' or 'end'", other)),
         }
     }
 }
@@ -82,12 +61,39 @@ impl<F: Figure> Working<F> {
             given: Vec::new(heap),
         }
     }
+}
 
-    // Adds the figures of a line `in FIGURE …`.
-    pub(crate) fn read_line(&mut self, heap: Global, line: &Line<'_>) -> Result<(), Fault> {
+// Lines `cell ROW COLUMN FIGURE`.
+impl<F: Figure> Given for Entries<F> {
+    fn read_line(&mut self, line: &Line<'_>) -> Result<(), Fault> {
+        if line.head != "cell" {
+            return Err(line.fault("'cell' or 'end'", line.head));
+        }
+        let (row, column, value) = read_entry(line)?;
+        self.rows.push(row)?;
+        self.columns.push(column)?;
+        self.values.push(value)?;
+        Ok(())
+    }
+}
+
+// Lines `first FIGURE …` and `second FIGURE …`.
+impl<F: Figure> Given for Lists<F> {
+    fn read_line(&mut self, line: &Line<'_>) -> Result<(), Fault> {
         match line.head {
-            "in" => line.read_figures(heap, &mut self.given),
-            other => Err(Fault::word(heap, line.number, "'in' or 'end'", other)),
+            "first" => line.read_figures(&mut self.first),
+            "second" => line.read_figures(&mut self.second),
+            other => Err(line.fault("'first', 'second' or 'end'", other)),
+        }
+    }
+}
+
+// Lines `in FIGURE …`.
+impl<F: Figure> Given for Working<F> {
+    fn read_line(&mut self, line: &Line<'_>) -> Result<(), Fault> {
+        match line.head {
+            "in" => line.read_figures(&mut self.given),
+            other => Err(line.fault("'in' or 'end'", other)),
         }
     }
 }

@@ -1,9 +1,10 @@
 // The parts of a script: each begins with the arithmetic that its figures are of.
-ghost use Rattle.std.specs.Prelude.{◌<◌, IfOk, vec_len};
+ghost use Rattle.std.specs.Prelude.{◌<◌, ◌≤◌, IfOk, vec_len};
+ghost use Rattle.script.specs.Left.{left};
 
 use crate::command::Command;
 use crate::fault::Fault;
-use crate::lines::Line;
+use crate::lines::{Line, Lines, cut};
 use arithmetic::{Amount, Block, Wait, YesNo};
 use spelling::Figure;
 use std::alloc::Global;
@@ -20,84 +21,49 @@ pub enum Part {
     Blocks(Vec<Command<Block<Amount>>>),
 }
 
-// Adds what a line says, which goes on with the last command or is a command of its own. Answers whether the last
-// command then goes on.
-fn read_command<F: Figure>(
-    heap: Global,
-    commands: &mut Vec<Command<F>>,
-    goes_on: bool,
-    line: &Line<'_>,
-) -> Result<bool, Fault> {
-    if goes_on && let Some(command) = commands.last_mut() {
-        return command.read_more(heap, line);
+// The commands up to the next part.
+fn read_commands<F: Figure>(lines: &mut Lines<'_, '_>) -> Result<Vec<Command<F>>, Fault>
+    ensures { left lines.new ≤ left lines.old }
+{
+    let mut commands = Vec::new(lines.heap);
+    while let Some(line) = lines.next_of_part() {
+        commands.push(Command::read(line, lines)?)?;
     }
-    let command = Command::read_line(heap, line)?;
-    let more = command.goes_on();
-    commands.push(command)?;
-    Ok(more)
+    Ok(commands)
 }
 
 impl Part {
     // The part that a line `arithmetic NAME` begins.
-    fn begun(heap: Global, line: &Line<'_>) -> Result<Part, Fault> {
-        if line.head != "arithmetic" {
-            return Err(Fault::word(heap, line.number, ARITHMETIC, line.head));
+    fn read(line: &Line<'_>, lines: &mut Lines<'_, '_>) -> Result<Part, Fault>
+        ensures { left lines.new ≤ left lines.old }
+    {
+        if !line.begins_part() {
+            return Err(line.fault(ARITHMETIC, line.head));
         }
         let name = line.word_at(0, ARITHMETICS)?;
-        line.ends_after(heap, 1)?;
+        line.ends_after(1)?;
         match name {
-            "amounts" => Ok(Part::Amounts(Vec::new(heap))),
-            "yes-or-no" => Ok(Part::YesOrNo(Vec::new(heap))),
-            "waits" => Ok(Part::Waits(Vec::new(heap))),
-            "blocks" => Ok(Part::Blocks(Vec::new(heap))),
-            other => Err(Fault::word(heap, line.number, ARITHMETICS, other)),
+            "amounts" => read_commands(lines).map(Part::Amounts),
+            "yes-or-no" => read_commands(lines).map(Part::YesOrNo),
+            "waits" => read_commands(lines).map(Part::Waits),
+            "blocks" => read_commands(lines).map(Part::Blocks),
+            other => Err(line.fault(ARITHMETICS, other)),
         }
     }
-
-    fn read_line(&mut self, heap: Global, goes_on: bool, line: &Line<'_>) -> Result<bool, Fault> {
-        match self {
-            Part::Amounts(commands) => read_command(heap, commands, goes_on, line),
-            Part::YesOrNo(commands) => read_command(heap, commands, goes_on, line),
-            Part::Waits(commands) => read_command(heap, commands, goes_on, line),
-            Part::Blocks(commands) => read_command(heap, commands, goes_on, line),
-        }
-    }
-}
-
-// Adds what a line says: a part begins with it, or it belongs to the last part. Answers whether the last command then
-// goes on.
-fn read_line(
-    heap: Global,
-    parts: &mut Vec<Part>,
-    goes_on: bool,
-    line: &Line<'_>,
-) -> Result<bool, Fault> {
-    if (goes_on || line.head != "arithmetic")
-        && let Some(part) = parts.last_mut()
-    {
-        return part.read_line(heap, goes_on, line);
-    }
-    parts.push(Part::begun(heap, line)?)?;
-    Ok(false)
 }
 
 // The parts of a script, in order and one at least; or the first line that is not what was expected.
 pub fn read(heap: Global, text: &str) -> Result<Vec<Part>, Fault>
     ensures { IfOk result (λ parts. 0 < vec_len parts) }
 {
+    let lines = cut(heap, text)?;
+    let mut lines = Lines::new(heap, lines.as_slice(), text);
     let mut parts: Vec<Part> = Vec::new(heap);
-    let mut goes_on = false;
-    for (i, words) in text.lines().enumerate() {
-        if let Some(line) = Line::cut(heap, i + 1, words)? {
-            goes_on = read_line(heap, &mut parts, goes_on, &line)?;
-        }
-    }
-    let after = text.lines().count().saturating_add(1);
-    if goes_on {
-        return Err(Fault::end_of_input(after, "'end'"));
+    while let Some(line) = lines.next_line() {
+        parts.push(Part::read(line, &mut lines)?)?;
     }
     if parts.is_empty() {
-        return Err(Fault::end_of_input(after, ARITHMETIC));
+        return Err(lines.ended(ARITHMETIC));
     }
     Ok(parts)
 }
