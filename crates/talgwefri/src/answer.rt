@@ -1,20 +1,20 @@
 // The calls of the commands, and their answers in words.
-use crate::books::{Book, weighed, zeros};
+use crate::books::{Book, weighed};
 use crate::stop::Stop;
 use crate::table::Table;
 use arithmetic::Arithmetic;
-use script::{Command, Counted, Listed, Working};
+use script::{Command, Counted, Listed};
 use sheet::Refusal;
 use std::alloc::Global;
 use std::fmt;
 
 // Opens a book in new arrays, in place of the one before.
 fn answer_open<F: Arithmetic>(
-    heap: Global,
     book: &mut Book<F>,
     order: usize,
     capacity: usize,
 ) -> Result<String, Stop> {
+    let heap = book.heap();
     *book = Book::with_capacity(heap, capacity)?;
     let sheets = Counted(book.open(order)?, "sheet", "sheets");
     Ok(format!(in heap; "{sheets}.")?)
@@ -40,7 +40,6 @@ fn answer_figure<F: fmt::Display + Drop>(
 
 // Where the off-diagonal cells of a row lie, with their columns and figures.
 fn answer_row<F: Arithmetic + fmt::Display>(
-    heap: Global,
     book: &Book<F>,
     sheet: usize,
     row: usize,
@@ -48,40 +47,31 @@ fn answer_row<F: Arithmetic + fmt::Display>(
     let (from, to) = book.row(sheet, row)?;
     let columns = Listed(book.columns(sheet, row)?);
     let figures = Listed(book.figures(sheet, row)?);
-    Ok(format!(in heap; "from {from} up to {to}; columns {columns}; figures {figures}.")?)
+    Ok(format!(in book.heap(); "from {from} up to {to}; columns {columns}; figures {figures}.")?)
 }
 
 // The vector out of a working, which is as long as the order of the book.
-fn answer_column_working<F: Arithmetic + fmt::Display>(
+fn answer_working<F: Arithmetic + fmt::Display, W: FnOnce(&mut [F]) -> Result<usize, Refusal>>(
     heap: Global,
-    book: &Book<F>,
-    working: &Working<F>,
-) -> Result<String, Stop> {
-    let mut out = zeros(heap, book.order())?;
-    book.column_working(working, out.as_mut_slice())?;
-    let out = Listed(out.as_slice());
-    Ok(format!(in heap; "{out}.")?)
-}
-
-fn answer_row_working<F: Arithmetic + fmt::Display>(
-    heap: Global,
-    book: &Book<F>,
-    working: &Working<F>,
-) -> Result<String, Stop> {
-    let mut out = zeros(heap, book.order())?;
-    book.row_working(working, out.as_mut_slice())?;
+    order: usize,
+    work: W,
+) -> Result<String, Stop>
+    requires { W.IsAlwaysCallable work }
+{
+    let mut out = vec![in heap; F::zero(); order]?;
+    work(out.as_mut_slice())?;
     let out = Listed(out.as_slice());
     Ok(format!(in heap; "{out}.")?)
 }
 
 // Makes the call of a command, and gives its answer in words.
 pub(crate) fn answer<F: Arithmetic + fmt::Display>(
-    heap: Global,
     book: &mut Book<F>,
     command: &Command<F>,
 ) -> Result<String, Stop> {
+    let heap = book.heap();
     match command {
-        Command::Open { order, capacity } => answer_open(heap, book, *order, *capacity),
+        Command::Open { order, capacity } => answer_open(book, *order, *capacity),
         Command::Unit => answer_sheet(heap, book.unit()),
         Command::Load(entries) => answer_sheet(heap, book.load(entries)),
         Command::Add { first, second } => answer_sheet(heap, book.add(*first, *second)),
@@ -91,11 +81,15 @@ pub(crate) fn answer<F: Arithmetic + fmt::Display>(
         Command::Cell { sheet, row, column } => {
             answer_figure(heap, book.cell(*sheet, *row, *column))
         }
-        Command::Row { sheet, row } => answer_row(heap, book, *sheet, *row),
-        Command::ColumnWorking(working) => answer_column_working(heap, book, working),
-        Command::RowWorking(working) => answer_row_working(heap, book, working),
+        Command::Row { sheet, row } => answer_row(book, *sheet, *row),
+        Command::ColumnWorking(working) => {
+            answer_working(heap, book.order(), |out| book.column_working(working, out))
+        }
+        Command::RowWorking(working) => {
+            answer_working(heap, book.order(), |out| book.row_working(working, out))
+        }
         Command::Weigh(lists) => answer_figure(heap, weighed(lists)),
-        Command::Table { sheet } => Ok(Table::of(heap, book, *sheet)?.to_string(heap)?),
+        Command::Table { sheet } => Ok(Table::of(book, *sheet)?.to_string(heap)?),
         Command::Arrays => Ok(book.to_string(heap)?),
     }
 }

@@ -20,15 +20,6 @@ pub(crate) struct Book<F> {
     figures: Vec<F>,
 }
 
-// A vector of zeros.
-pub(crate) fn zeros<F: Arithmetic>(heap: Global, length: usize) -> Result<Vec<F>, AllocError> {
-    let mut figures = Vec::with_capacity(heap, length)?;
-    for _ in 0..length {
-        figures.push(F::zero())?;
-    }
-    Ok(figures)
-}
-
 pub(crate) fn weighed<F: Arithmetic>(lists: &Lists<F>) -> Result<F, Refusal>
     ensures { Weighs F.Arithmetic.figures lists.now.first.items lists.now.second.items result }
 {
@@ -50,7 +41,7 @@ impl<F: Arithmetic> Book<F> {
         Ok(Book {
             header: vec![in heap; 0; HEADER_WORDS]?,
             index: vec![in heap; 0; capacity]?,
-            figures: zeros(heap, capacity)?,
+            figures: vec![in heap; F::zero(); capacity]?,
         })
     }
 
@@ -214,12 +205,14 @@ impl<F: Arithmetic> Book<F> {
 }
 
 impl<F> Book<F> {
+    // The heap that the arrays are on.
+    pub(crate) fn heap(&self) -> Global {
+        *self.header.allocator()
+    }
+
     // A word of the header, or 0 where there is none.
     fn word(&self, place: usize) -> u32 {
-        match self.header.get(place) {
-            Some(word) => *word,
-            None => 0,
-        }
+        self.header.get(place).copied().unwrap_or(0)
     }
 
     pub(crate) fn order(&self) -> usize {
@@ -227,24 +220,19 @@ impl<F> Book<F> {
     }
 }
 
-impl<F: fmt::Display> Book<F> {
-    // What the two packed arrays hold of a sheet, which lies between two places of them.
-    fn write_sheet<W: fmt::Write>(
-        &self,
-        f: &mut fmt::Formatter<W>,
-        sheet: usize,
-        from: usize,
-        to: usize,
-    ) -> fmt::Result {
-        if let Some(words) = self.index.get(from..to) {
-            let index = Listed(words);
-            write!(f, "\n   sheet {sheet}, index: {index}")?;
+// What a packed array holds of a sheet, if the sheet lies within it.
+fn write_part<T: fmt::Display, W: fmt::Write>(
+    f: &mut fmt::Formatter<W>,
+    sheet: usize,
+    name: &str,
+    part: Option<&[T]>,
+) -> fmt::Result {
+    match part {
+        Some(items) => {
+            let items = Listed(items);
+            write!(f, "\n   sheet {sheet}, {name}: {items}")
         }
-        if let Some(items) = self.figures.get(from..to) {
-            let figures = Listed(items);
-            write!(f, "\n   sheet {sheet}, figures: {figures}")?;
-        }
-        Ok(())
+        None => Ok(()),
     }
 }
 
@@ -258,7 +246,8 @@ impl<F: fmt::Display> fmt::Display for Book<F> {
         for sheet in 0..sheets {
             let from = self.word(2 + sheet) as usize;
             let to = self.word(3 + sheet) as usize;
-            self.write_sheet(f, sheet, from, to)?;
+            write_part(f, sheet, "index", self.index.get(from..to))?;
+            write_part(f, sheet, "figures", self.figures.get(from..to))?;
         }
         Ok(())
     }

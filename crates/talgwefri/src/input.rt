@@ -5,13 +5,10 @@ use std::{env, fs, io};
 
 // The name of the file to read, if one is given.
 fn file_name(rt: &HostRuntime) -> Result<Option<String>, Failure> {
-    let mut words = match env::args(rt) {
-        Ok(words) => words,
-        Err(why) => {
-            let source = Source::Arguments;
-            return Err(Failure::Unread { source, why });
-        }
-    };
+    let mut words = env::args(rt).map_err(|why| Failure::Unread {
+        source: Source::Arguments,
+        why,
+    })?;
     let _program = words.next();
     let name = words.next();
     if words.next().is_some() {
@@ -28,43 +25,30 @@ fn standard_input(rt: &HostRuntime) -> io::Result<Vec<u8>> {
 
 // The line, counted from 1, that the byte at `at` stands in.
 fn line_of(bytes: &[u8], at: usize) -> usize {
-    let mut number = 1usize;
-    for b in bytes.iter().take(at) {
-        if *b == b'\n' {
-            number = number.saturating_add(1);
-        }
-    }
-    number
+    let ends = bytes.iter().take(at).filter(|b| **b == b'\n');
+    ends.count().saturating_add(1)
 }
 
 fn as_text(bytes: Vec<u8>) -> Result<String, Failure> {
-    match String::from_utf8(bytes) {
-        Ok(text) => Ok(text),
-        Err(why) => {
-            let valid = why.utf8_error().valid_up_to();
-            let number = line_of(why.as_bytes(), valid);
-            Err(Failure::NoText { number })
+    String::from_utf8(bytes).map_err(|why| {
+        let valid = why.utf8_error().valid_up_to();
+        Failure::NoText {
+            number: line_of(why.as_bytes(), valid),
         }
-    }
+    })
 }
 
 // The bytes that are to be read, or from where they cannot be read.
 fn read_bytes(rt: &HostRuntime) -> Result<Vec<u8>, Failure> {
     match file_name(rt)? {
-        Some(name) => match fs::read(rt, name.as_str()) {
-            Ok(bytes) => Ok(bytes),
-            Err(why) => Err(Failure::Unread {
-                source: Source::File(name),
-                why,
-            }),
-        },
-        None => match standard_input(rt) {
-            Ok(bytes) => Ok(bytes),
-            Err(why) => Err(Failure::Unread {
-                source: Source::StandardInput,
-                why,
-            }),
-        },
+        Some(name) => fs::read(rt, name.as_str()).map_err(|why| Failure::Unread {
+            source: Source::File(name),
+            why,
+        }),
+        None => standard_input(rt).map_err(|why| Failure::Unread {
+            source: Source::StandardInput,
+            why,
+        }),
     }
 }
 

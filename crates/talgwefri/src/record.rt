@@ -7,24 +7,6 @@ use script::{Command, Part};
 use std::alloc::{AllocError, Global};
 use std::fmt;
 
-// The line of a command, or the lines of a table and of arrays.
-fn line<F: Arithmetic + fmt::Display>(
-    heap: Global,
-    book: &mut Book<F>,
-    command: &Command<F>,
-    number: usize,
-) -> Result<String, AllocError> {
-    match answer(heap, book, command) {
-        Ok(said) => format!(in heap; "{number}. {command}: {said}\n"),
-        Err(Stop::SentBack(refusal)) => {
-            let loading = matches!(command, Command::Load(_));
-            let why = SentBack { refusal, loading };
-            format!(in heap; "{number}. {command}: {why}\n")
-        }
-        Err(Stop::Memory(why)) => Err(why),
-    }
-}
-
 #[derive(Drop)]
 struct Record {
     text: String,
@@ -33,27 +15,42 @@ struct Record {
 }
 
 impl Record {
+    // Adds the line of a command, or the lines of a table and of arrays.
+    fn carry_out_command<F: Arithmetic + fmt::Display>(
+        &mut self,
+        book: &mut Book<F>,
+        command: &Command<F>,
+    ) -> Result<(), AllocError> {
+        self.commands = self.commands.saturating_add(1);
+        let number = self.commands;
+        match answer(book, command) {
+            Ok(said) => writeln!(self.text, "{number}. {command}: {said}"),
+            Err(Stop::SentBack(refusal)) => {
+                let why = SentBack { refusal, command };
+                writeln!(self.text, "{number}. {command}: {why}")
+            }
+            Err(Stop::Memory(why)) => Err(why),
+        }
+    }
+
     // Carries the commands of a part out, one after the other, without a book at first.
     fn carry_out<F: Arithmetic + fmt::Display>(
         &mut self,
-        heap: Global,
         commands: &[Command<F>],
     ) -> Result<(), AllocError> {
-        let mut book = Book::without_arrays(heap);
+        let mut book = Book::without_arrays(*self.text.allocator());
         for command in commands {
-            self.commands = self.commands.saturating_add(1);
-            let line = line(heap, &mut book, command, self.commands)?;
-            self.text.push_str(line.as_str())?;
+            self.carry_out_command(&mut book, command)?;
         }
         Ok(())
     }
 
-    fn carry_out_part(&mut self, heap: Global, part: &Part) -> Result<(), AllocError> {
+    fn carry_out_part(&mut self, part: &Part) -> Result<(), AllocError> {
         match part {
-            Part::Amounts(commands) => self.carry_out(heap, commands.as_slice()),
-            Part::YesOrNo(commands) => self.carry_out(heap, commands.as_slice()),
-            Part::Waits(commands) => self.carry_out(heap, commands.as_slice()),
-            Part::Blocks(commands) => self.carry_out(heap, commands.as_slice()),
+            Part::Amounts(commands) => self.carry_out(commands.as_slice()),
+            Part::YesOrNo(commands) => self.carry_out(commands.as_slice()),
+            Part::Waits(commands) => self.carry_out(commands.as_slice()),
+            Part::Blocks(commands) => self.carry_out(commands.as_slice()),
         }
     }
 }
@@ -65,7 +62,7 @@ pub(crate) fn record_of(heap: Global, parts: &[Part]) -> Result<String, AllocErr
         commands: 0,
     };
     for part in parts {
-        record.carry_out_part(heap, part)?;
+        record.carry_out_part(part)?;
     }
     Ok(record.text)
 }

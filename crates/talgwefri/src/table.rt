@@ -2,7 +2,6 @@
 use crate::books::Book;
 use crate::stop::Stop;
 use arithmetic::Arithmetic;
-use std::alloc::Global;
 use std::fmt;
 
 #[derive(Drop)]
@@ -12,44 +11,38 @@ pub(crate) struct Table {
 
 // The figures of a row, each by a call of its own.
 fn row_of<F: Arithmetic + fmt::Display>(
-    heap: Global,
     book: &Book<F>,
     sheet: usize,
     row: usize,
     columns: usize,
 ) -> Result<Vec<String>, Stop> {
-    let mut cells = Vec::new(heap);
-    for column in 0..columns {
-        let figure = book.cell(sheet, row, column)?;
-        cells.push(figure.to_string(heap)?)?;
-    }
-    Ok(cells)
+    let heap = book.heap();
+    (0..columns)
+        .map(|column| -> Result<String, Stop> {
+            Ok(book.cell(sheet, row, column)?.to_string(heap)?)
+        })
+        .try_collect(heap)
 }
 
 impl Table {
     // One cell at least is asked for, so that a sheet that is not there is sent back.
     pub(crate) fn of<F: Arithmetic + fmt::Display>(
-        heap: Global,
         book: &Book<F>,
         sheet: usize,
     ) -> Result<Table, Stop> {
         let order = book.order().max(1);
-        let mut rows = Vec::new(heap);
-        for row in 0..order {
-            rows.push(row_of(heap, book, sheet, row, order)?)?;
-        }
+        let rows = (0..order)
+            .map(|row| row_of(book, sheet, row, order))
+            .try_collect(book.heap())?;
         Ok(Table { rows })
     }
 
     // How wide a column is: as the widest figure, and enough for the number of any column.
     fn width(&self) -> usize {
-        let mut width = 4usize;
-        for row in self.rows.iter() {
-            for cell in row.iter() {
-                width = width.max(cell.len());
-            }
-        }
-        width
+        let cells = self.rows.iter().flatten();
+        cells
+            .map(|cell| cell.len())
+            .fold(4, |width, length| width.max(length))
     }
 }
 
