@@ -1,9 +1,11 @@
 // A book in three arrays of its own, and the calls on it.
+ghost use Rattle.std.specs.Prelude.{◌≡◌};
 ghost use Rattle.sheet.specs.Weighing.{Weighs};
 ghost use Rattle.book.specs.Calls.{Outcome, Open, Unit', Load, Add, Multiply, Flip, Strike};
 ghost use Rattle.book.specs.Lookups.{CellIs, RowIs, RowPartIs};
 ghost use Rattle.book.specs.Workings.{ColumnWorked, RowWorked};
 ghost use Rattle.talgwefri.specs.Held.{held};
+ghost use Rattle.talgwefri.specs.Lent.{Lent};
 
 use arithmetic::Arithmetic;
 use script::{Counted, Entries, Listed, Lists, Working};
@@ -45,132 +47,108 @@ impl<F: Arithmetic> Book<F> {
         })
     }
 
-    pub(crate) fn open(&mut self, order: usize) -> Result<usize, Refusal>
-        ensures { Outcome F.Arithmetic.figures (held self.old) (Open order) result (held self.new) }
+    // Makes a call that is lent the three arrays and may change them.
+    fn lend<C: FnOnce(&mut [u32], &mut [u32], &mut [F]) -> Result<usize, Refusal>>(
+        &mut self,
+        call: C,
+    ) -> Result<usize, Refusal>
+        requires { C.IsAlwaysCallable call }
+        ensures { Lent C.FnOnce call (held self.old) result (held self.new) }
     {
-        book::open(
+        call(
             self.header.as_mut_slice(),
             self.index.as_mut_slice(),
             self.figures.as_mut_slice(),
-            order,
         )
+    }
+
+    // The three arrays, for a call that changes none of them.
+    fn arrays(&self) -> (&[u32], &[u32], &[F])
+        ensures header { result.0.now ≡ self.now.header.items }
+        ensures index { result.1.now ≡ self.now.index.items }
+        ensures figures { result.2.now ≡ self.now.figures.items }
+    {
+        (
+            self.header.as_slice(),
+            self.index.as_slice(),
+            self.figures.as_slice(),
+        )
+    }
+
+    pub(crate) fn open(&mut self, order: usize) -> Result<usize, Refusal>
+        ensures { Outcome F.Arithmetic.figures (held self.old) (Open order) result (held self.new) }
+    {
+        self.lend(|header, index, figures| book::open(header, index, figures, order))
     }
 
     pub(crate) fn unit(&mut self) -> Result<usize, Refusal>
         ensures { Outcome F.Arithmetic.figures (held self.old) Unit' result (held self.new) }
     {
-        book::unit(
-            self.header.as_mut_slice(),
-            self.index.as_mut_slice(),
-            self.figures.as_mut_slice(),
-        )
+        // Passed by its name, a function of another crate is not proved: hence a closure.
+        self.lend(|header, index, figures| book::unit(header, index, figures))
     }
 
     pub(crate) fn load(&mut self, entries: &Entries<F>) -> Result<usize, Refusal>
         ensures { Outcome F.Arithmetic.figures (held self.old) (Load entries.now.rows.items entries.now.columns.items entries.now.values.items) result (held self.new) }
     {
-        book::load(
-            self.header.as_mut_slice(),
-            self.index.as_mut_slice(),
-            self.figures.as_mut_slice(),
-            entries.rows.as_slice(),
-            entries.columns.as_slice(),
-            entries.values.as_slice(),
-        )
+        let rows = entries.rows.as_slice();
+        let columns = entries.columns.as_slice();
+        let values = entries.values.as_slice();
+        self.lend(|header, index, figures| {
+            book::load(header, index, figures, rows, columns, values)
+        })
     }
 
     pub(crate) fn add(&mut self, first: usize, second: usize) -> Result<usize, Refusal>
         ensures { Outcome F.Arithmetic.figures (held self.old) (Add first second) result (held self.new) }
     {
-        book::add(
-            self.header.as_mut_slice(),
-            self.index.as_mut_slice(),
-            self.figures.as_mut_slice(),
-            first,
-            second,
-        )
+        self.lend(|header, index, figures| book::add(header, index, figures, first, second))
     }
 
     pub(crate) fn multiply(&mut self, first: usize, second: usize) -> Result<usize, Refusal>
         ensures { Outcome F.Arithmetic.figures (held self.old) (Multiply first second) result (held self.new) }
     {
-        book::multiply(
-            self.header.as_mut_slice(),
-            self.index.as_mut_slice(),
-            self.figures.as_mut_slice(),
-            first,
-            second,
-        )
+        self.lend(|header, index, figures| book::multiply(header, index, figures, first, second))
     }
 
     pub(crate) fn flip(&mut self, sheet: usize) -> Result<usize, Refusal>
         ensures { Outcome F.Arithmetic.figures (held self.old) (Flip sheet) result (held self.new) }
     {
-        book::flip(
-            self.header.as_mut_slice(),
-            self.index.as_mut_slice(),
-            self.figures.as_mut_slice(),
-            sheet,
-        )
+        self.lend(|header, index, figures| book::flip(header, index, figures, sheet))
     }
 
     pub(crate) fn strike(&mut self) -> Result<usize, Refusal>
         ensures { Outcome F.Arithmetic.figures (held self.old) Strike result (held self.new) }
     {
-        book::strike(
-            self.header.as_mut_slice(),
-            self.index.as_mut_slice(),
-            self.figures.as_mut_slice(),
-        )
+        self.lend(|header, index, figures| book::strike(header, index, figures))
     }
 
     pub(crate) fn cell(&self, sheet: usize, row: usize, column: usize) -> Result<F, Refusal>
         ensures { CellIs F.Arithmetic.figures (held self.now) sheet row column result }
     {
-        book::cell(
-            self.header.as_slice(),
-            self.index.as_slice(),
-            self.figures.as_slice(),
-            sheet,
-            row,
-            column,
-        )
+        let (header, index, figures) = self.arrays();
+        book::cell(header, index, figures, sheet, row, column)
     }
 
     pub(crate) fn row(&self, sheet: usize, row: usize) -> Result<(usize, usize), Refusal>
         ensures { RowIs F.Arithmetic.figures (held self.now) sheet row result }
     {
-        book::row(
-            self.header.as_slice(),
-            self.index.as_slice(),
-            self.figures.as_slice(),
-            sheet,
-            row,
-        )
+        let (header, index, figures) = self.arrays();
+        book::row(header, index, figures, sheet, row)
     }
 
     pub(crate) fn columns(&self, sheet: usize, row: usize) -> Result<&[u32], Refusal>
         ensures { RowPartIs F.Arithmetic.figures (held self.now) self.now.index.items sheet row result }
     {
-        book::columns(
-            self.header.as_slice(),
-            self.index.as_slice(),
-            self.figures.as_slice(),
-            sheet,
-            row,
-        )
+        let (header, index, figures) = self.arrays();
+        book::columns(header, index, figures, sheet, row)
     }
 
     pub(crate) fn figures(&self, sheet: usize, row: usize) -> Result<&[F], Refusal>
         ensures { RowPartIs F.Arithmetic.figures (held self.now) self.now.figures.items sheet row result }
     {
-        book::figures(
-            self.header.as_slice(),
-            self.index.as_slice(),
-            self.figures.as_slice(),
-            sheet,
-            row,
-        )
+        let (header, index, figures) = self.arrays();
+        book::figures(header, index, figures, sheet, row)
     }
 
     pub(crate) fn column_working(
@@ -180,10 +158,11 @@ impl<F: Arithmetic> Book<F> {
     ) -> Result<usize, Refusal>
         ensures { ColumnWorked F.Arithmetic.figures (held self.now) working.now.sheet working.now.given.items out.old result out.new }
     {
+        let (header, index, figures) = self.arrays();
         book::column_working(
-            self.header.as_slice(),
-            self.index.as_slice(),
-            self.figures.as_slice(),
+            header,
+            index,
+            figures,
             working.sheet,
             working.given.as_slice(),
             out,
@@ -193,10 +172,11 @@ impl<F: Arithmetic> Book<F> {
     pub(crate) fn row_working(&self, working: &Working<F>, out: &mut [F]) -> Result<usize, Refusal>
         ensures { RowWorked F.Arithmetic.figures (held self.now) working.now.sheet working.now.given.items out.old result out.new }
     {
+        let (header, index, figures) = self.arrays();
         book::row_working(
-            self.header.as_slice(),
-            self.index.as_slice(),
-            self.figures.as_slice(),
+            header,
+            index,
+            figures,
             working.sheet,
             working.given.as_slice(),
             out,
