@@ -12,49 +12,20 @@ const FIGURES: [u32; 12] = [1, 1, 1, 0, 2, 0, 1, 0, 5, 4, 79, 0];
 // The number and the place that a book is sent back with; none where it is sound.
 fn judged(header: &[u32], index: &[u32], figures: &[Amount]) -> Option<(u8, usize)> {
     let found: Result<Amount, Refusal> = cell(header, index, figures, 1, 0, 2);
-    match found {
-        Ok(_) => None,
-        Err(why) => Some((why.number(), why.place())),
-    }
+    found.err().map(|why| (why.number(), why.place()))
 }
 
-fn amounts(values: [u32; 12]) -> [Amount; 12] {
-    let mut figures = [Amount::new(0); 12];
-    for i in 0..12 {
-        figures[i] = Amount::new(values[i]);
+// An array of the book with one item changed.
+fn changed<const N: usize>(mut items: [u32; N], place: usize, value: u32) -> [u32; N] {
+    if let Some(item) = items.get_mut(place) {
+        *item = value;
     }
-    figures
-}
-
-// The book with one word of its header changed.
-fn with_word(word: usize, value: u32) -> Option<(u8, usize)> {
-    let mut header = HEADER;
-    if word < 19 {
-        header[word] = value;
-    }
-    judged(&header, &INDEX, &amounts(FIGURES))
-}
-
-// The book with one index word changed.
-fn with_index(position: usize, value: u32) -> Option<(u8, usize)> {
-    let mut index = INDEX;
-    if position < 12 {
-        index[position] = value;
-    }
-    judged(&HEADER, &index, &amounts(FIGURES))
-}
-
-// The book with one figure changed.
-fn with_figure(position: usize, value: u32) -> Option<(u8, usize)> {
-    let mut figures = FIGURES;
-    if position < 12 {
-        figures[position] = value;
-    }
-    judged(&HEADER, &INDEX, &amounts(figures))
+    items
 }
 
 #[test]
 fn headers(rt: HostRuntime) {
+    let sound = FIGURES.map(Amount::new);
     let cases = [
         (0, 3, None),
         (0, 0, Some((3, 0))),
@@ -73,16 +44,15 @@ fn headers(rt: HostRuntime) {
         (18, 1, Some((3, 18))),
     ];
     for (word, value, expected) in cases {
-        assert_eq!(rt; with_word(word, value), expected);
+        let header = changed(HEADER, word, value);
+        assert_eq!(rt; judged(&header, &INDEX, &sound), expected);
     }
-    assert_eq!(rt;
-        judged(&[4_294_967_295; 19], &INDEX, &amounts(FIGURES)),
-        Some((3, 0))
-    );
+    assert_eq!(rt; judged(&[4_294_967_295; 19], &INDEX, &sound), Some((3, 0)));
 }
 
 #[test]
 fn sheets(rt: HostRuntime) {
+    let sound = FIGURES.map(Amount::new);
     let words = [
         (0, 3, Some((4, 0))),
         (4, 5, Some((4, 4))),
@@ -98,7 +68,8 @@ fn sheets(rt: HostRuntime) {
         (10, 0, None),
     ];
     for (position, value, expected) in words {
-        assert_eq!(rt; with_index(position, value), expected);
+        let index = changed(INDEX, position, value);
+        assert_eq!(rt; judged(&HEADER, &index, &sound), expected);
     }
     let figures = [
         (3, 1, Some((4, 3))),
@@ -109,31 +80,25 @@ fn sheets(rt: HostRuntime) {
         (11, 9, None),
     ];
     for (position, value, expected) in figures {
-        assert_eq!(rt; with_figure(position, value), expected);
+        let figures = changed(FIGURES, position, value).map(Amount::new);
+        assert_eq!(rt; judged(&HEADER, &INDEX, &figures), expected);
     }
 }
 
 #[test]
 fn lengths_and_small_orders(rt: HostRuntime) {
-    let figures = amounts(FIGURES);
+    let figures = FIGURES.map(Amount::new);
     assert_eq!(rt; judged(&HEADER[0..18], &INDEX, &figures), Some((1, 0)));
     assert_eq!(rt; judged(&HEADER, &INDEX[0..11], &figures), Some((1, 1)));
     assert_eq!(rt; judged(&HEADER, &INDEX[0..9], &figures[0..9]), Some((3, 4)));
     // Columns of one row that do not rise.
     let header = [3, 1, 0, 6, 0, 0, 0, 0, 0, 0, 0, 0, 0, 0, 0, 0, 0, 0, 0];
-    let two = [
-        Amount::new(0),
-        Amount::new(0),
-        Amount::new(0),
-        Amount::new(0),
-        Amount::new(7),
-        Amount::new(8),
-    ];
+    let two = [0, 0, 0, 0, 7, 8].map(Amount::new);
     assert_eq!(rt; judged(&header, &[4, 6, 6, 6, 1, 2], &two), Some((6, 1)));
     assert_eq!(rt; judged(&header, &[4, 6, 6, 6, 2, 2], &two), Some((4, 5)));
     assert_eq!(rt; judged(&header, &[4, 6, 6, 6, 2, 1], &two), Some((4, 5)));
     // Of order 1 no cell off the diagonal can be right.
     let one = [1, 1, 0, 3, 0, 0, 0, 0, 0, 0, 0, 0, 0, 0, 0, 0, 0, 0, 0];
-    let three = [Amount::new(1), Amount::new(0), Amount::new(5)];
+    let three = [1, 0, 5].map(Amount::new);
     assert_eq!(rt; judged(&one, &[2, 3, 0], &three), Some((4, 2)));
 }
