@@ -7,43 +7,30 @@ const ROWS: [u32; 9] = [0, 0, 0, 1, 1, 1, 2, 2, 2];
 
 const COLUMNS: [u32; 9] = [0, 1, 2, 0, 1, 2, 0, 1, 2];
 
-#[derive(Clone, Copy)]
-enum Call {
-    Multiply(usize, usize),
-    Flip(usize),
-}
-
 // What the arrays of a book of order 3 hold after two tables are loaded and a call is made. Before that each index
 // word is 7 and each figure the unit.
-fn after<F: Arithmetic>(
+fn after<F: Arithmetic, C: FnOnce(&mut [u32], &mut [u32], &mut [F]) -> Result<usize, Refusal>>(
     first: [F; 9],
     second: [F; 9],
-    call: Call,
-) -> Result<([u32; 19], [u32; 18], [F; 18]), Refusal> {
+    call: C,
+) -> Result<([u32; 19], [u32; 18], [F; 18]), Refusal>
+    requires { C.IsAlwaysCallable call }
+{
     let mut header = [0; 19];
     let mut index = [7; 18];
     let mut figures = [F::unit(); 18];
     book::open(&mut header, &mut index, &mut figures, 3)?;
-    book::load(
-        &mut header,
-        &mut index,
-        &mut figures,
-        &ROWS,
-        &COLUMNS,
-        &first,
-    )?;
-    book::load(
-        &mut header,
-        &mut index,
-        &mut figures,
-        &ROWS,
-        &COLUMNS,
-        &second,
-    )?;
-    let _made = match call {
-        Call::Multiply(i, j) => book::multiply(&mut header, &mut index, &mut figures, i, j)?,
-        Call::Flip(i) => book::flip(&mut header, &mut index, &mut figures, i)?,
-    };
+    for table in [first, second] {
+        book::load(
+            &mut header,
+            &mut index,
+            &mut figures,
+            &ROWS,
+            &COLUMNS,
+            &table,
+        )?;
+    }
+    call(&mut header, &mut index, &mut figures)?;
     Ok((header, index, figures))
 }
 
@@ -54,39 +41,25 @@ fn header(ends: [u32; 3]) -> [u32; 19] {
 }
 
 // The same with tables of blocks, each block as its four amounts; none where a call is sent back.
-fn after_blocks(
+fn after_blocks<C: FnOnce(&mut [u32], &mut [u32], &mut [Block<Amount>]) -> Result<usize, Refusal>>(
     first: [[u32; 4]; 9],
     second: [[u32; 4]; 9],
-    call: Call,
-) -> Option<([u32; 19], [u32; 18], [[u32; 4]; 18])> {
-    match after(blocks(first), blocks(second), call) {
-        Ok(held) => {
-            let header = held.0;
-            let index = held.1;
-            let figures = held.2;
-            let mut shown = [[0; 4]; 18];
-            for i in 0..18 {
-                let Block { p, q, r, s } = figures[i];
-                shown[i] = [p.value(), q.value(), r.value(), s.value()];
-            }
-            Some((header, index, shown))
-        }
-        Err(_) => None,
-    }
+    call: C,
+) -> Option<([u32; 19], [u32; 18], [[u32; 4]; 18])>
+    requires { C.IsAlwaysCallable call }
+{
+    let (header, index, figures) = after(blocks(first), blocks(second), call).ok()?;
+    let shown = figures.map(|Block { p, q, r, s }| [p.value(), q.value(), r.value(), s.value()]);
+    Some((header, index, shown))
 }
 
 fn blocks(table: [[u32; 4]; 9]) -> [Block<Amount>; 9] {
-    let mut figures = [Block::zero(); 9];
-    for i in 0..9 {
-        let [p, q, r, s] = table[i];
-        figures[i] = Block {
-            p: Amount::new(p),
-            q: Amount::new(q),
-            r: Amount::new(r),
-            s: Amount::new(s),
-        };
-    }
-    figures
+    table.map(|[p, q, r, s]| Block {
+        p: Amount::new(p),
+        q: Amount::new(q),
+        r: Amount::new(r),
+        s: Amount::new(s),
+    })
 }
 
 // Of two blocks that are not zero the product can be zero, and off the diagonal it is not stored.
@@ -103,7 +76,7 @@ fn blocks_vanish(rt: HostRuntime) {
     let index = [4, 5, 5, 6, 1, 1, 4, 4, 6, 6, 0, 2, 4, 4, 4, 4, 7, 7];
     let figures = [o, o, o, o, n, m, o, o, o, o, m, n, nm, o, mn, o, e, e];
     assert_eq!(rt;
-        after_blocks(first, second, Call::Multiply(0, 1)),
+        after_blocks(first, second, |h, x, f| book::multiply(h, x, f, 0, 1)),
         Some((header([6, 12, 16]), index, figures))
     );
 }
@@ -119,30 +92,28 @@ fn blocks_keep_their_order(rt: HostRuntime) {
     let yx = [1, 1, 1, 2];
     let first = [x, x, o, o, o, o, o, o, o];
     let second = [y, o, o, o, o, y, o, o, o];
-    let cases = [
-        (Call::Multiply(0, 1), [5, 5, 2], xy),
-        (Call::Multiply(1, 0), [5, 5, 1], yx),
-        (Call::Flip(0), [4, 5, 0], x),
-    ];
-    for (call, [a, b, column], z) in cases {
+    let made = |[a, b, column]: [u32; 3], z: [u32; 4]| {
         let index = [4, 5, 5, 5, 1, 4, 4, 5, 5, 2, 4, a, b, 5, column, 7, 7, 7];
         let figures = [x, o, o, o, x, y, o, o, o, y, z, o, o, o, z, e, e, e];
-        assert_eq!(rt;
-            after_blocks(first, second, call),
-            Some((header([5, 10, 15]), index, figures))
-        );
-    }
+        Some((header([5, 10, 15]), index, figures))
+    };
+    assert_eq!(rt;
+        after_blocks(first, second, |h, x, f| book::multiply(h, x, f, 0, 1)),
+        made([5, 5, 2], xy)
+    );
+    assert_eq!(rt;
+        after_blocks(first, second, |h, x, f| book::multiply(h, x, f, 1, 0)),
+        made([5, 5, 1], yx)
+    );
+    assert_eq!(rt;
+        after_blocks(first, second, |h, x, f| book::flip(h, x, f, 0)),
+        made([4, 5, 0], x)
+    );
 }
 
 // So many days; never where that is above the longest wait.
 fn waits(table: [u32; 9]) -> [Wait; 9] {
-    let mut figures = [Wait::never(); 9];
-    for i in 0..9 {
-        if let Some(wait) = Wait::days(table[i]) {
-            figures[i] = wait;
-        }
-    }
-    figures
+    table.map(|days| Wait::days(days).unwrap_or(Wait::never()))
 }
 
 // One day more than the longest wait is never, and off the diagonal it is not stored; the longest wait is.
@@ -153,87 +124,70 @@ fn waits_vanish(rt: HostRuntime) {
     let k = 4_294_967_293;
     let first = waits([v, l, v, v, v, v, v, k, v]);
     let second = waits([v, v, v, 1, v, 1, v, v, v]);
-    let mut found = None;
-    if let Ok(held) = after(first, second, Call::Multiply(0, 1)) {
-        let header = held.0;
-        let index = held.1;
-        let figures = held.2;
-        let mut days = [v; 18];
-        for i in 0..18 {
-            if let Some(n) = figures[i].in_days() {
-                days[i] = n;
-            }
-        }
-        found = Some((header, index, days));
-    }
+    let held = after(first, second, |h, x, f| book::multiply(h, x, f, 0, 1));
+    let found = held.ok().map(|(header, index, figures)| {
+        let days = figures.map(|wait| wait.in_days().unwrap_or(v));
+        (header, index, days)
+    });
     let index = [4, 5, 5, 6, 1, 1, 4, 4, 6, 6, 0, 2, 4, 4, 4, 5, 0, 7];
     let days = [v, v, v, v, l, k, v, v, v, v, 1, 1, v, v, l, v, l, 0];
     assert_eq!(rt; found, Some((header([6, 12, 17]), index, days)));
 }
 
-// The number and the place that a call is sent back with, or the answer.
-fn told(answer: Result<usize, Refusal>) -> Result<usize, (u8, usize)> {
-    match answer {
-        Ok(sheet) => Ok(sheet),
-        Err(why) => Err((why.number(), why.place())),
-    }
-}
-
 // What a call answers in a new book, and what the arrays hold then. Before that each index word is 7 and each figure 9.
-// The call is unit, or else load of 1 and 2 for the same cell.
-fn first_call<const N: usize>(
-    order: usize,
-    is_unit: bool,
-) -> (Result<usize, (u8, usize)>, [u32; 19], [u32; N], [u32; N]) {
+// A call that is sent back is told by its number and its place.
+fn first_call<
+    const N: usize,
+    C: FnOnce(&mut [u32], &mut [u32], &mut [Amount]) -> Result<usize, Refusal>,
+>(order: usize, call: C) -> (Result<usize, (u8, usize)>, [u32; 19], [u32; N], [u32; N])
+    requires { C.IsAlwaysCallable call }
+{
     let mut header = [0; 19];
     let mut index = [7; N];
     let mut figures = [Amount::new(9); N];
     let _ = book::open(&mut header, &mut index, &mut figures, order);
-    let twice = [Amount::new(1), Amount::new(2)];
-    let answer = if is_unit {
-        told(book::unit(&mut header, &mut index, &mut figures))
-    } else {
-        told(book::load(
-            &mut header,
-            &mut index,
-            &mut figures,
-            &[0, 0],
-            &[0, 0],
-            &twice,
-        ))
-    };
+    let answer = call(&mut header, &mut index, &mut figures);
+    let told = answer.map_err(|why| (why.number(), why.place()));
     let mut values = [0; N];
-    for i in 0..N {
-        values[i] = figures[i].value();
+    for (value, figure) in values.iter_mut().zip(&figures) {
+        *value = figure.value();
     }
-    (answer, header, index, values)
+    (told, header, index, values)
+}
+
+// Loads 1 and 2 for the same cell.
+fn load_twice(
+    header: &mut [u32],
+    index: &mut [u32],
+    figures: &mut [Amount],
+) -> Result<usize, Refusal> {
+    let twice = [Amount::new(1), Amount::new(2)];
+    book::load(header, index, figures, &[0, 0], &[0, 0], &twice)
 }
 
 // The header of one sheet, or of none.
 fn short_header(order: u32, sheets: u32, end: u32) -> [u32; 19] {
-    let mut header = [0; 19];
-    header[0] = order;
-    header[1] = sheets;
-    header[3] = end;
-    header
+    [
+        order, sheets, 0, end, 0, 0, 0, 0, 0, 0, 0, 0, 0, 0, 0, 0, 0, 0, 0,
+    ]
 }
 
 #[test]
 fn smallest(rt: HostRuntime) {
     assert_eq!(rt;
-        first_call::<2>(1, true),
+        first_call::<2, _>(1, |h, x, f| book::unit(h, x, f)),
         (Ok(0), short_header(1, 1, 2), [2, 2], [1, 0])
     );
     assert_eq!(rt;
-        first_call::<4>(3, true),
+        first_call::<4, _>(3, |h, x, f| book::unit(h, x, f)),
         (Ok(0), short_header(3, 1, 4), [4; 4], [1, 1, 1, 0])
     );
     assert_eq!(rt;
-        first_call::<3>(3, true),
+        first_call::<3, _>(3, |h, x, f| book::unit(h, x, f)),
         (Err((9, 4)), short_header(3, 0, 0), [7; 3], [9; 3])
     );
     assert_eq!(rt;
-        first_call::<4>(3, false),
+        first_call::<4, _>(3, load_twice),
         (Err((8, 1)), short_header(3, 0, 0), [7; 4], [9; 4])
     );
 }
