@@ -1,16 +1,17 @@
 // Why a text is no script.
 use std::alloc::{AllocError, AllocFailed, Global};
+use std::error::Error;
 use std::fmt;
 
 // What stands in the text where something else was expected.
-#[derive(Drop)]
+#[derive(Debug, Drop)]
 pub enum Found {
     Word(String),
     EndOfLine,
     EndOfInput,
 }
 
-#[derive(Drop)]
+#[derive(Debug, Drop)]
 pub enum Fault {
     // A line of the text, counted from 1, is not what was expected.
     Line {
@@ -68,3 +69,5 @@ impl fmt::Display for Fault {
         }
     }
 }
+
+impl Error for Fault {}

@@ -75,6 +75,7 @@ impl Line<'_> {
         self.number_up_to(LARGEST_CAPACITY, place, CAPACITY)
     }
 
+    // A reader that is passed in is not proved where what it reads is a type parameter, so the reading stands here twice.
     pub(crate) fn figure_at<F: Figure>(&self, place: usize) -> Result<F, Fault> {
         let word = self.word_at(place, F::EXPECTED)?;
         F::read(word).ok_or_else(|| self.fault(F::EXPECTED, word))

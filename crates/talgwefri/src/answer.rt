@@ -44,10 +44,11 @@ fn answer_row<F: Arithmetic + fmt::Display>(
     sheet: usize,
     row: usize,
 ) -> Result<String, Stop> {
+    let heap = book.heap();
     let (from, to) = book.row(sheet, row)?;
     let columns = Listed(book.columns(sheet, row)?);
     let figures = Listed(book.figures(sheet, row)?);
-    Ok(format!(in book.heap(); "from {from} up to {to}; columns {columns}; figures {figures}.")?)
+    Ok(format!(in heap; "from {from} up to {to}; columns {columns}; figures {figures}.")?)
 }
 
 // The vector out of a working, which is as long as the order of the book.

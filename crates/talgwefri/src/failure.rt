@@ -37,13 +37,6 @@ impl From<AllocError> for Failure {
     }
 }
 
-// For the one place where the record is written; what is read says `Unread`.
-impl From<io::Error> for Failure {
-    fn from(why: io::Error) -> Failure {
-        Failure::Unwritten { why }
-    }
-}
-
 impl fmt::Display for Source {
     fn fmt<W: fmt::Write>(&self, f: &mut fmt::Formatter<W>) -> fmt::Result {
         match self {

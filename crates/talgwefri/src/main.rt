@@ -18,8 +18,8 @@ use std::process::ExitCode;
 fn run(rt: &HostRuntime) -> Result<(), Failure> {
     let text = input::read(rt)?;
     let parts = script::read(rt.alloc(), text.as_str())?;
-    rt.print(record::record_of(rt.alloc(), parts.as_slice())?)?;
-    Ok(())
+    let record = record::record_of(rt.alloc(), parts.as_slice())?;
+    rt.print(record).map_err(|why| Failure::Unwritten { why })
 }
 
 fn main(rt: HostRuntime) -> ExitCode {

@@ -45,6 +45,7 @@ impl Record {
         Ok(())
     }
 
+    // The arms look alike, and each calls at an arithmetic of its own.
     fn carry_out_part(&mut self, part: &Part) -> Result<(), AllocError> {
         match part {
             Part::Amounts(commands) => self.carry_out(commands.as_slice()),
