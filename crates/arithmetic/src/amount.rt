@@ -29,15 +29,11 @@ impl Amount {
 impl Arithmetic for Amount {
     ghost figures = { amount_figures };
 
-    ghost commutes = { true };
+    ghost COMMUTES = { true };
 
     const COMMUTES: bool = true;
 
     ghost commuting = { Prim.search rules };
-
-    fn states_commuting() -> bool {
-        Self::COMMUTES
-    }
 
     fn zero() -> Amount {
         Amount { value: 0 }

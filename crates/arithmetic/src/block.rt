@@ -6,9 +6,6 @@ ghost use Rattle.std.proofs.Common.{rules};
 use crate::Arithmetic;
 use std::fmt;
 
-// Blocks do not commute, whatever figures they are made of.
-const BLOCKS_COMMUTE: bool = false;
-
 // Four figures in two rows, (p q; r s), multiplied as tables are: a × b is seldom b × a.
 #[derive(Clone, Copy, Debug, PartialEq, Eq)]
 pub struct Block<A> {
@@ -21,15 +18,12 @@ pub struct Block<A> {
 impl<A: Arithmetic> Arithmetic for Block<A> {
     ghost figures = { block_figures A.Arithmetic.figures };
 
-    ghost commutes = { false };
+    // Blocks do not commute, whatever figures they are made of.
+    ghost COMMUTES = { false };
 
-    const COMMUTES: bool = BLOCKS_COMMUTE;
+    const COMMUTES: bool = false;
 
     ghost commuting = { Prim.search rules };
-
-    fn states_commuting() -> bool {
-        BLOCKS_COMMUTE
-    }
 
     fn zero() -> Block<A> {
         Block {

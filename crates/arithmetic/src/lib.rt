@@ -21,14 +21,17 @@ pub trait Arithmetic: Copy {
     ghost figures: { Figures Self };
 
     // Whether the arithmetic states that a × b is b × a. If it does, it owes that law.
-    ghost commutes: { Bool };
+    ghost COMMUTES: { Bool };
 
-    // The statement for code; `states_commuting` says what it promises.
     const COMMUTES: bool;
 
+    // The statement, with what it promises.
     fn states_commuting() -> bool
-        ensures stated { result ≡ commutes }
-        ensures kept { result ≡ true → Commutes figures.ring };
+        ensures stated { result ≡ COMMUTES }
+        ensures kept { result ≡ true → Commutes figures.ring }
+    {
+        Self::COMMUTES
+    }
 
     fn zero() -> Self
         ensures { figures.meaning result ≡ figures.ring.zero };
@@ -45,5 +48,5 @@ pub trait Arithmetic: Copy {
     fn is_zero(self) -> bool
         ensures { result ≡ figures.ring.is_zero (figures.meaning self) };
 
-    ghost commuting: { commutes ≡ true → Commutes figures.ring };
+    ghost commuting: { COMMUTES ≡ true → Commutes figures.ring };
 }

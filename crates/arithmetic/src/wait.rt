@@ -45,15 +45,11 @@ impl Wait {
 impl Arithmetic for Wait {
     ghost figures = { wait_figures };
 
-    ghost commutes = { true };
+    ghost COMMUTES = { true };
 
     const COMMUTES: bool = true;
 
     ghost commuting = { Prim.search rules };
-
-    fn states_commuting() -> bool {
-        Self::COMMUTES
-    }
 
     fn zero() -> Wait {
         Wait::never()

@@ -15,15 +15,11 @@ pub enum YesNo {
 impl Arithmetic for YesNo {
     ghost figures = { yes_no_figures };
 
-    ghost commutes = { true };
+    ghost COMMUTES = { true };
 
     const COMMUTES: bool = true;
 
     ghost commuting = { Prim.search rules };
-
-    fn states_commuting() -> bool {
-        Self::COMMUTES
-    }
 
     fn zero() -> YesNo {
         YesNo::No
@@ -50,10 +46,7 @@ impl Arithmetic for YesNo {
     }
 
     fn is_zero(self) -> bool {
-        match self {
-            YesNo::Yes => false,
-            YesNo::No => true,
-        }
+        matches!(self, YesNo::No)
     }
 }
 
