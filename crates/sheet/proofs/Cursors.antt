@@ -5,14 +5,7 @@ use Rattle.arithmetic.specs.Semiring.{Semiring}
 use Rattle.sheet.specs.Packed.{Sound, table}
 use Rattle.sheet.proofs.Unique.{found_first}
 use Rattle.sheet.proofs.Found.{sound_rises, row_past, row_within, cell_at, columns_rise, not_found, table_here, table_off}
-use Rattle.sheet.specs.Cursors.{spot_of, column_of}
-
--- p is the first place of row i whose column is not below k
-pub record Cursor (ws : List ℕ) (i k p : ℕ) : Type 0 where
-  pub from : get_or ws i 0 ≤ p
-  pub to : p ≤ get_or ws (i + 1) 0
-  pub behind : (q : ℕ) → get_or ws i 0 ≤ q → q < p → get_or ws q 0 < k
-  pub ahead : (q : ℕ) → p ≤ q → q < get_or ws (i + 1) 0 → k ≤ get_or ws q 0
+use Rattle.sheet.specs.Cursors.{spot_of, column_of, Cursor}
 
 module _ {F : Type 0} (s : Semiring F) (n : ℕ) (ws : List ℕ) (fs : List F) (sound : Sound s n ws fs) (i : ℕ) (low : i < n) where
   pub cursor_none : Cursor ws i 0 (get_or ws i 0)

@@ -1,12 +1,12 @@
 -- The unit table, packed and written.
-use Rattle.std.proofs.Common.{◌≡◌, ℕ, zero, suc, ◌+◌, ◌<◌, ◌≤◌, false, ◌⊎◌, List, [], length, set, sym, refl, ap, ◌∙◌, subst, ⊎_elim, add-one, arith}
+use Rattle.std.proofs.Common.{◌≡◌, ℕ, zero, suc, ◌+◌, ◌<◌, ◌≤◌, false, ◌⊎◌, List, [], length, set, sym, refl, ap, ◌∙◌, ⊎_elim, add-one, arith}
 use Rattle.std.proofs.lemmas.Bool.{cases_eq, eq-eqb, ne_eqb}
 use Rattle.arithmetic.specs.Semiring.{Semiring, Figures}
 use Rattle.matrix.specs.Tables.{unit_table}
 use Rattle.sheet.specs.Packed.{stored, columns_below, row_start, packed_length}
-use Rattle.sheet.specs.Writing.{Appended}
+use Rattle.sheet.specs.Writing.{Written, RowStarted}
 use Rattle.sheet.proofs.Columns.{zero_not_stored, columns_no}
-use Rattle.sheet.proofs.Laying.{Laying, laying_none, laying_corner, laying_row, laying_skip, laying_all}
+use Rattle.sheet.proofs.Laying.{Laying, laying_start, laying_corner, laying_row, laying_skip, laying_all}
 
 module _ {F : Type 0} (s : Semiring F) where
   off_diagonal : (r c : ℕ) → (r ≡ c → ⊥) → unit_table s r c ≡ s.zero
@@ -24,28 +24,28 @@ module _ {F : Type 0} (s : Semiring F) where
           (λ (e : c ≡ r). rw (eq-eqb c r e) refl)
           (λ (ne : c ≡ r → ⊥). zero_not_stored s r (unit_table s r) c (off_diagonal r c (λ e. ne (sym e))))
 
-  unit_start : (n r : ℕ) → row_start s n (unit_table s) r ≡ n + 1
-  unit_start n zero = refl
-  unit_start n (suc r) = let before = unit_start n r in let none = ap length (unit_columns r n) in omega arith
+  unit_starts : (n r : ℕ) → row_start s n (unit_table s) r ≡ n + 1
+  unit_starts n zero = refl
+  unit_starts n (suc r) = let before = unit_starts n r in let none = ap length (unit_columns r n) in omega arith
 
   pub unit_length : (n : ℕ) → packed_length s n (unit_table s) ≡ n + 1
-  unit_length n = unit_start n n
+  unit_length n = unit_starts n n
 
-module _ {S : Type 0} (a : Figures S) (n base : ℕ) (ws : List ℕ) (fs : List S) (room : base + (n + 1) ≤ length ws) (level : length fs ≡ length ws) where
-  fits : base + packed_length a.ring n (unit_table a.ring) ≤ length ws
+module _ {S : Type 0} (a : Figures S) (n : ℕ) (ws : List ℕ) (fs : List S) (room : n + 1 ≤ length ws) (level : length fs ≡ length ws) where
+  fits : packed_length a.ring n (unit_table a.ring) ≤ length ws
   fits = let e = unit_length a.ring n in omega arith
 
-  pub unit_none : (z : S) → a.meaning z ≡ a.ring.zero → ws ≡ set ws base (n + 1) → fs ≡ set fs base z → Laying a n (unit_table a.ring) base ws fs 0 0 ws fs (base + (n + 1))
-  unit_none z z_is we fe = subst (λ x. Laying a n (unit_table a.ring) base ws fs 0 0 x fs (base + (n + 1))) (sym we) (subst (λ y. Laying a n (unit_table a.ring) base ws fs 0 0 (set ws base (n + 1)) y (base + (n + 1))) (sym fe) (laying_none a n (unit_table a.ring) base ws fs fits level z z_is))
+  pub unit_start : (ws' : List ℕ) (fs' : List S) → RowStarted a 0 (n + 1) ws fs ws' fs' → Laying a n (unit_table a.ring) ws fs 0 0 ws' fs' (n + 1)
+  unit_start = laying_start a n (unit_table a.ring) ws fs fits level
 
   -- one row: its unit, and the start of the next
-  pub unit_row : (r : ℕ) → r < n → (ws' : List ℕ) (fs' : List S) → Laying a n (unit_table a.ring) base ws fs r 0 ws' fs' (base + (n + 1)) → (u z : S) → a.meaning u ≡ a.ring.unit → a.meaning z ≡ a.ring.zero → Laying a n (unit_table a.ring) base ws fs (r + 1) 0 (set ws' (base + (r + 1)) (n + 1)) (set (set fs' (base + r) u) (base + (r + 1)) z) (base + (n + 1))
-  unit_row r low ws' fs' l u z u_is z_is =
+  pub unit_row : (r : ℕ) → r < n → (ws' : List ℕ) (fs' : List S) → Laying a n (unit_table a.ring) ws fs r 0 ws' fs' (n + 1) → (u : S) → a.meaning u ≡ a.ring.unit → (ws'' : List ℕ) (fs'' : List S) → RowStarted a (r + 1) (n + 1) ws' (set fs' r u) ws'' fs'' → Laying a n (unit_table a.ring) ws fs (r + 1) 0 ws'' fs'' (n + 1)
+  unit_row r low ws' fs' l u u_is ws'' fs'' w =
       let t = unit_table a.ring in
-      let before = laying_skip a n t base ws fs fits level r 0 r low (omega arith) ws' fs' (base + (n + 1)) (λ j from to. off_diagonal a.ring r j (λ e. omega arith)) l in
-      let corner = laying_corner a n t base ws fs fits level r r low ws' fs' (base + (n + 1)) before refl u (u_is ∙ sym (on_diagonal a.ring r r refl)) (set fs' (base + r) u) refl in
-      let all = laying_skip a n t base ws fs fits level r (r + 1) n low (omega arith) ws' (set fs' (base + r) u) (base + (n + 1)) (λ j from to. off_diagonal a.ring r j (λ e. omega arith)) corner in
-      laying_row a n t base ws fs fits level r n low ws' (set fs' (base + r) u) (base + (n + 1)) all refl (n + 1) refl z z_is _ _ refl refl
+      let before = laying_skip a n t ws fs fits level r 0 r low (omega arith) ws' fs' (n + 1) (λ j from to. off_diagonal a.ring r j (λ e. omega arith)) l in
+      let corner = laying_corner a n t ws fs fits level r r low ws' fs' (n + 1) before refl u (u_is ∙ sym (on_diagonal a.ring r r refl)) (set fs' r u) refl in
+      let all = laying_skip a n t ws fs fits level r (r + 1) n low (omega arith) ws' (set fs' r u) (n + 1) (λ j from to. off_diagonal a.ring r j (λ e. omega arith)) corner in
+      laying_row a n t ws fs fits level r n low ws' (set fs' r u) (n + 1) all refl ws'' fs'' w
 
-  pub unit_all : (r : ℕ) → r ≡ n → (ws' : List ℕ) (fs' : List S) → Laying a n (unit_table a.ring) base ws fs r 0 ws' fs' (base + (n + 1)) → Appended a n (unit_table a.ring) base ws fs ws' fs'
-  unit_all r done ws' fs' l = (laying_all a n (unit_table a.ring) base ws fs fits level r done ws' fs' (base + (n + 1)) l).0
+  pub unit_all : (r : ℕ) → r ≡ n → (ws' : List ℕ) (fs' : List S) → Laying a n (unit_table a.ring) ws fs r 0 ws' fs' (n + 1) → Written a n (unit_table a.ring) ws fs ws' fs'
+  unit_all r done ws' fs' l = (laying_all a n (unit_table a.ring) ws fs fits level r done ws' fs' (n + 1) l).0

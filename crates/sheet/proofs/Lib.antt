@@ -10,6 +10,6 @@ pub mod Lists
 pub mod Unique
 pub mod Sought
 pub mod Loads
-pub mod Made
+pub mod Known
 pub mod Diagonals
 pub mod Cursors

@@ -1,28 +1,25 @@
 -- A list that is written entry by entry.
-use Rattle.std.proofs.Common.{◌≡◌, ℕ, ◌+◌, ◌<◌, ◌≤◌, List, length, get_or, set, sym, refl, ap, ◌∙◌, subst, inl, inr, ⊎_elim, arith}
+use Rattle.std.proofs.Common.{◌≡◌, ℕ, ◌+◌, ◌<◌, ◌≤◌, List, length, get_or, sym, refl, ap, ◌∙◌, subst, inl, inr, ⊎_elim, arith}
 use Rattle.std.proofs.lemmas.Bool.{cases_lt}
 use Rattle.arithmetic.specs.Semiring.{Figures}
-use Rattle.matrix.specs.Tables.{Table}
-use Rattle.matrix.proofs.Meant.{read_means, length-meanings}
-use Rattle.sheet.specs.Packed.{packed_length, packed_index}
+use Rattle.matrix.proofs.Meant.{read_means}
+use Rattle.sheet.specs.Packed.{packed_length}
 use Rattle.sheet.specs.Loading.{Placed}
-use Rattle.sheet.specs.Writing.{Appended, EntryWritten}
-use Rattle.sheet.proofs.Halves.{placed_over}
-use Rattle.sheet.proofs.Same.{index_long, figures_long_too}
-use Rattle.sheet.proofs.Laying.{Laying, starts_grow, spot_within, laying_none, laying_entry, laying_room, laying_row, laying_skip, laying_all}
+use Rattle.sheet.specs.Writing.{Written, RowStarted, EntryWritten}
+use Rattle.sheet.proofs.Laying.{Laying, spot_within, laying_start, laying_entry, laying_room, laying_row, laying_skip, laying_all}
 use Rattle.sheet.proofs.Lists.{Before, AtLeast, Frontier, listed, ordered, frontier_none, frontier_more, gap, gap_before, cell_listed}
 
 -- k entries are written; the sheet has come to this row
-pub record Loading {S : Type 0} (a : Figures S) (n : ℕ) (rows columns : List ℕ) (figs : List S) (base : ℕ) (ws : List ℕ) (fs : List S) (k row : ℕ) (ws' : List ℕ) (fs' : List S) (at : ℕ) : Type 0 where
+pub record Loading {S : Type 0} (a : Figures S) (n : ℕ) (rows columns : List ℕ) (figs : List S) (ws : List ℕ) (fs : List S) (k row : ℕ) (ws' : List ℕ) (fs' : List S) (at : ℕ) : Type 0 where
   pub column : ℕ
   pub column_within : column ≤ n
   pub row_within : row ≤ n
   pub done : row ≡ n → column ≡ 0
   pub frontier : Frontier rows columns row column k
-  pub laying : Laying a n (listed a rows columns figs) base ws fs row column ws' fs' at
+  pub laying : Laying a n (listed a rows columns figs) ws fs row column ws' fs' at
 
-module _ {S : Type 0} (a : Figures S) (n : ℕ) (rows columns : List ℕ) (figs : List S) (even : length columns ≡ length rows) (even' : length figs ≡ length rows) (placed : (k : ℕ) → k < length rows → Placed n rows columns k) (base : ℕ) (ws : List ℕ) (fs : List S) (room : base + packed_length a.ring n (listed a rows columns figs) ≤ length ws) (level : length fs ≡ length ws) where
-  module _ (k row : ℕ) (low : k < length rows) (is : get_or rows k 0 ≡ row) (below : row < n) (ws' : List ℕ) (fs' : List S) (at : ℕ) (l : Loading a n rows columns figs base ws fs k row ws' fs' at) (f : S) (f_is : f ≡ get_or figs k f) where
+module _ {S : Type 0} (a : Figures S) (n : ℕ) (rows columns : List ℕ) (figs : List S) (even : length columns ≡ length rows) (even' : length figs ≡ length rows) (placed : (k : ℕ) → k < length rows → Placed n rows columns k) (ws : List ℕ) (fs : List S) (room : packed_length a.ring n (listed a rows columns figs) ≤ length ws) (level : length fs ≡ length ws) where
+  module _ (k row : ℕ) (low : k < length rows) (is : get_or rows k 0 ≡ row) (below : row < n) (ws' : List ℕ) (fs' : List S) (at : ℕ) (l : Loading a n rows columns figs ws fs k row ws' fs' at) (f : S) (f_is : f ≡ get_or figs k f) where
     -- the entry's column is not passed yet
     ahead_of : l.column ≤ get_or columns k 0
     ahead_of = go (l.frontier.ahead k (omega arith) low)
@@ -32,17 +29,17 @@ module _ {S : Type 0} (a : Figures S) (n : ℕ) (rows columns : List ℕ) (figs 
         go (inr h) = h.1
 
     -- the cells before the entry are zero
-    entry_here : Laying a n (listed a rows columns figs) base ws fs row (get_or columns k 0) ws' fs' at
-    entry_here = laying_skip a n (listed a rows columns figs) base ws fs room level row l.column (get_or columns k 0) below ahead_of ws' fs' at (λ j from to. gap_before a n rows columns figs even even' placed k low row l.column l.frontier row j (inr (refl, from)) (inr (sym is, to))) l.laying
+    entry_here : Laying a n (listed a rows columns figs) ws fs row (get_or columns k 0) ws' fs' at
+    entry_here = laying_skip a n (listed a rows columns figs) ws fs room level row l.column (get_or columns k 0) below ahead_of ws' fs' at (λ j from to. gap_before a n rows columns figs even even' placed k low row l.column l.frontier row j (inr (refl, from)) (inr (sym is, to))) l.laying
 
     value_is : a.meaning f ≡ listed a rows columns figs row (get_or columns k 0)
     value_is = read_means a figs k f a.ring.zero (omega arith) f_is ∙ (sym (cell_listed a n rows columns figs even even' placed k low a.ring.zero) ∙ ap (λ r. listed a rows columns figs r (get_or columns k 0)) is)
 
     -- where an entry that is stored goes, there is room
     pub entry_room : (get_or columns k 0 ≡ row → ⊥) → (a.meaning f ≡ a.ring.zero → ⊥) → at < length ws
-    entry_room off some = laying_room a n (listed a rows columns figs) base ws fs room level row (get_or columns k 0) below ws' fs' at entry_here (placed k low).column_below f value_is off some
+    entry_room off some = laying_room a n (listed a rows columns figs) ws fs room level row (get_or columns k 0) below ws' fs' at entry_here (placed k low).column_below f value_is off some
 
-    pub loading_entry : (ws'' : List ℕ) (fs'' : List S) (at' : ℕ) → EntryWritten a base (get_or rows k 0) (get_or columns k 0) f at ws' fs' ws'' fs'' at' → Loading a n rows columns figs base ws fs (k + 1) row ws'' fs'' at'
+    pub loading_entry : (ws'' : List ℕ) (fs'' : List S) (at' : ℕ) → EntryWritten a (get_or rows k 0) (get_or columns k 0) f at ws' fs' ws'' fs'' at' → Loading a n rows columns figs ws fs (k + 1) row ws'' fs'' at'
     loading_entry ws'' fs'' at' w =
         let in_table = (placed k low).column_below in
         record {
@@ -51,10 +48,10 @@ module _ {S : Type 0} (a : Figures S) (n : ℕ) (rows columns : List ℕ) (figs 
           row_within = omega arith;
           done = λ e. absurd (omega arith);
           frontier = subst (λ r. Frontier rows columns r (get_or columns k 0 + 1) (k + 1)) is (frontier_more a n rows columns figs even even' placed k low row l.column l.frontier);
-          laying = laying_entry a n (listed a rows columns figs) base ws fs room level row (get_or columns k 0) below ws' fs' at entry_here in_table f value_is ws'' fs'' at' (subst (λ r. EntryWritten a base r (get_or columns k 0) f at ws' fs' ws'' fs'' at') is w);
+          laying = laying_entry a n (listed a rows columns figs) ws fs room level row (get_or columns k 0) below ws' fs' at entry_here in_table f value_is ws'' fs'' at' (subst (λ r. EntryWritten a r (get_or columns k 0) f at ws' fs' ws'' fs'' at') is w);
         }
 
-  module _ (k row : ℕ) (below : row < n) (ws' : List ℕ) (fs' : List S) (at : ℕ) (l : Loading a n rows columns figs base ws fs k row ws' fs' at) (over : (k < length rows) × (get_or rows k 0 ≡ row) → ⊥) where
+  module _ (k row : ℕ) (below : row < n) (ws' : List ℕ) (fs' : List S) (at : ℕ) (l : Loading a n rows columns figs ws fs k row ws' fs' at) (over : (k < length rows) × (get_or rows k 0 ≡ row) → ⊥) where
     -- the entries that are left lie in later rows
     later : (e : ℕ) → k ≤ e → e < length rows → row < get_or rows e 0
     later e from to = go (l.frontier.ahead e from to) (l.frontier.ahead k (omega arith) (omega arith))
@@ -74,18 +71,18 @@ module _ {S : Type 0} (a : Figures S) (n : ℕ) (rows columns : List ℕ) (figs 
         go (inr h) (inl g) = let q = in_order in omega arith
         go (inr h) (inr g) = absurd (over (omega arith, sym g.0))
 
-    row_here : Laying a n (listed a rows columns figs) base ws fs row n ws' fs' at
-    row_here = laying_skip a n (listed a rows columns figs) base ws fs room level row l.column n below l.column_within ws' fs' at (λ j from to. gap a n rows columns figs even even' placed row l.column k row j l.frontier (inr (refl, from)) (λ e more less. inl (later e more less))) l.laying
+    row_here : Laying a n (listed a rows columns figs) ws fs row n ws' fs' at
+    row_here = laying_skip a n (listed a rows columns figs) ws fs room level row l.column n below l.column_within ws' fs' at (λ j from to. gap a n rows columns figs even even' placed row l.column k row j l.frontier (inr (refl, from)) (λ e more less. inl (later e more less))) l.laying
 
     -- where the row ends
-    pub row_room : (base ≤ at) × (at ≤ length ws)
+    pub row_room : at ≤ length ws
     row_room =
         let within = spot_within a.ring n (listed a rows columns figs) row n below (omega arith) in
         let here = row_here.at_is in
-        (omega arith, omega arith)
+        omega arith
 
-    pub loading_row : (x : ℕ) → base + x ≡ at → (z : S) → a.meaning z ≡ a.ring.zero → (ws'' : List ℕ) (fs'' : List S) → ws'' ≡ set ws' (base + (row + 1)) x → fs'' ≡ set fs' (base + (row + 1)) z → Loading a n rows columns figs base ws fs k (row + 1) ws'' fs'' at
-    loading_row x x_is z z_is ws'' fs'' we fe = record {
+    pub loading_row : (ws'' : List ℕ) (fs'' : List S) → RowStarted a (row + 1) at ws' fs' ws'' fs'' → Loading a n rows columns figs ws fs k (row + 1) ws'' fs'' at
+    loading_row ws'' fs'' w = record {
       column = 0;
       column_within = omega arith;
       row_within = omega arith;
@@ -95,7 +92,7 @@ module _ {S : Type 0} (a : Figures S) (n : ℕ) (rows columns : List ℕ) (figs 
         past = λ e h. inl (before (l.frontier.past e h));
         ahead = λ e from to. next (later e from to);
       };
-      laying = laying_row a n (listed a rows columns figs) base ws fs room level row n below ws' fs' at row_here refl x x_is z z_is ws'' fs'' we fe;
+      laying = laying_row a n (listed a rows columns figs) ws fs room level row n below ws' fs' at row_here refl ws'' fs'' w;
     }
       where
         before : {x y i j : ℕ} → Before x y i j → x < i + 1
@@ -105,34 +102,18 @@ module _ {S : Type 0} (a : Figures S) (n : ℕ) (rows columns : List ℕ) (figs 
         next : {r i j : ℕ} → r < i → AtLeast (r + 1) 0 i j
         next {r} {i} {j} h = ⊎_elim (λ (g : r + 1 < i). inl g) (λ (g : i ≤ r + 1). inr (omega arith, omega arith)) (cases_lt (r + 1) i)
 
-  pub loading_none : (z : S) → a.meaning z ≡ a.ring.zero → ws ≡ set ws base (n + 1) → fs ≡ set fs base z → 1 ≤ n → Loading a n rows columns figs base ws fs 0 0 ws fs (base + (n + 1))
-  loading_none z z_is we fe some = record {
+  pub loading_start : 1 ≤ n → (ws' : List ℕ) (fs' : List S) → RowStarted a 0 (n + 1) ws fs ws' fs' → Loading a n rows columns figs ws fs 0 0 ws' fs' (n + 1)
+  loading_start some ws' fs' w = record {
     column = 0;
     column_within = omega arith;
     row_within = omega arith;
     done = λ e. refl;
     frontier = frontier_none a n rows columns figs even even' placed;
-    laying = restated (laying_none a n (listed a rows columns figs) base ws fs room level z z_is);
+    laying = laying_start a n (listed a rows columns figs) ws fs room level ws' fs' w;
   }
-    where
-      restated : Laying a n (listed a rows columns figs) base ws fs 0 0 (set ws base (n + 1)) (set fs base z) (base + (n + 1)) → Laying a n (listed a rows columns figs) base ws fs 0 0 ws fs (base + (n + 1))
-      restated h = subst (λ x. Laying a n (listed a rows columns figs) base ws fs 0 0 x fs (base + (n + 1))) (sym we) (subst (λ y. Laying a n (listed a rows columns figs) base ws fs 0 0 (set ws base (n + 1)) y (base + (n + 1))) (sym fe) h)
 
-  pub loading_all : (k row : ℕ) → n ≤ row → (ws' : List ℕ) (fs' : List S) (at : ℕ) → Loading a n rows columns figs base ws fs k row ws' fs' at → Appended a n (listed a rows columns figs) base ws fs ws' fs'
+  pub loading_all : (k row : ℕ) → n ≤ row → (ws' : List ℕ) (fs' : List S) (at : ℕ) → Loading a n rows columns figs ws fs k row ws' fs' at → Written a n (listed a rows columns figs) ws fs ws' fs'
   loading_all k row all ws' fs' at l =
       let in_table = l.row_within in
       let end : row ≡ n = omega arith in
-      (laying_all a n (listed a rows columns figs) base ws fs room level row end ws' fs' at (subst (λ c. Laying a n (listed a rows columns figs) base ws fs row c ws' fs' at) (l.done end) l.laying)).0
-
--- an appended sheet may have had its first place written before
-pub appended_over : {S : Type 0} (a : Figures S) (n : ℕ) (t : Table a.F) (base : ℕ) (ws : List ℕ) (fs : List S) (x : ℕ) (z : S) (ws' : List ℕ) (fs' : List S) → Appended a n t base (set ws base x) (set fs base z) ws' fs' → Appended a n t base ws fs ws' fs'
-appended_over a n t base ws fs x z ws' fs' p =
-    let long : length (packed_index a.ring n t) ≡ packed_length a.ring n t = index_long a.ring n t in
-    let wide : length p.stored ≡ packed_length a.ring n t = sym (length-meanings a p.stored) ∙ (ap length p.means ∙ figures_long_too a.ring n t) in
-    let some = starts_grow a.ring n t 0 n (omega arith) in
-    record {
-      index = p.index ∙ placed_over ws base x (packed_index a.ring n t) (omega arith);
-      stored = p.stored;
-      means = p.means;
-      figures = p.figures ∙ placed_over fs base z p.stored (omega arith);
-    }
+      (laying_all a n (listed a rows columns figs) ws fs room level row end ws' fs' at (subst (λ c. Laying a n (listed a rows columns figs) ws fs row c ws' fs' at) (l.done end) l.laying)).0

@@ -1,23 +1,52 @@
--- A walk along a row in search of a column.
-use Rattle.std.proofs.Common.{◌≡◌, ℕ, ◌+◌, ◌-◌, ◌<◌, ◌≤◌, List, length, get_or, sym, ap, ◌∙◌, arith}
+-- A column that is sought among those of a row, which rise.
+use Rattle.std.proofs.Common.{◌≡◌, ℕ, ◌+◌, ◌-◌, ◌<◌, ◌≤◌, List, length, get_or, drop, ap, ◌∙◌, sym, ⊎_elim, arith}
+use Rattle.std.proofs.lemmas.List.{get_or-take, get_or-drop, length-take, length-drop}
+use Rattle.std.proofs.lemmas.Bool.{cases_lt}
 use Rattle.arithmetic.specs.Semiring.{Semiring}
-use Rattle.sheet.specs.Packed.{Sound, found, table}
-use Rattle.sheet.proofs.Found.{row_within, found_here, found_past, found_none, table_off}
+use Rattle.sheet.specs.Packed.{Sound, table}
+use Rattle.sheet.specs.Writing.{part}
+use Rattle.sheet.proofs.Unique.{found_first}
+use Rattle.sheet.proofs.Found.{row_within, sound_rises, columns_rise, not_found, table_off}
 
--- the walk along row i for column c stands at position p: the cell is what is found from there on
-pub record Sought {F : Type 0} (s : Semiring F) (ws : List ℕ) (fs : List F) (i c p : ℕ) : Type 0 where
-  pub within : get_or ws (i + 1) 0 ≤ length ws
-  pub ahead : table s ws fs i c ≡ found s ws fs c p (get_or ws (i + 1) 0 - p)
+module _ {F : Type 0} (s : Semiring F) (n : ℕ) (ws : List ℕ) (fs : List F) (sound : Sound s n ws fs) (i c : ℕ) (low : i < n) (off : c ≡ i → ⊥) where
+  pub row_ordered : get_or ws i 0 ≤ get_or ws (i + 1) 0
+  row_ordered = sound_rises s n ws fs sound i (i + 1) (omega arith) (omega arith)
 
-module _ {F : Type 0} (s : Semiring F) (n : ℕ) (ws : List ℕ) (fs : List F) (i c : ℕ) where
-  pub sought_none : Sound s n ws fs → i < n → (c ≡ i → ⊥) → Sought s ws fs i c (get_or ws i 0)
-  sought_none sound low ne = record { within = row_within s n ws fs sound (i + 1) (omega arith); ahead = table_off s ws fs i c ne }
+  pub row_end : get_or ws (i + 1) 0 ≤ length ws
+  row_end = row_within s n ws fs sound (i + 1) (omega arith)
 
-  pub sought_more : (p : ℕ) → p < get_or ws (i + 1) 0 → (c ≡ get_or ws p 0 → ⊥) → Sought s ws fs i c p → Sought s ws fs i c (p + 1)
-  sought_more p to ne w = record { within = w.within; ahead = w.ahead ∙ found_past s n ws fs i p to c ne }
+  long : length (part ws (get_or ws i 0) (get_or ws (i + 1) 0)) ≡ get_or ws (i + 1) 0 - get_or ws i 0
+  long = let e = row_end in simp (length-take, length-drop) (omega arith)
 
-  pub sought_here : (p : ℕ) → p < get_or ws (i + 1) 0 → get_or ws p 0 ≡ c → Sought s ws fs i c p → table s ws fs i c ≡ get_or fs p s.zero
-  sought_here p to is w = w.ahead ∙ (ap (λ d. found s ws fs d p (get_or ws (i + 1) 0 - p)) (sym is) ∙ found_here s n ws fs i p to)
+  at : (k : ℕ) → k < get_or ws (i + 1) 0 - get_or ws i 0 → get_or (part ws (get_or ws i 0) (get_or ws (i + 1) 0)) k 0 ≡ get_or ws (get_or ws i 0 + k) 0
+  at k h = get_or-take (get_or ws (i + 1) 0 - get_or ws i 0) (drop (get_or ws i 0) ws) k 0 h ∙ get_or-drop (get_or ws i 0) ws k 0
 
-  pub sought_all : (p : ℕ) → get_or ws (i + 1) 0 ≤ p → Sought s ws fs i c p → table s ws fs i c ≡ s.zero
-  sought_all p end w = w.ahead ∙ found_none s ws fs i p c end
+  -- the columns of the row rise
+  pub part_rises : (j k : ℕ) → j ≤ k → k < length (part ws (get_or ws i 0) (get_or ws (i + 1) 0)) → get_or (part ws (get_or ws i 0) (get_or ws (i + 1) 0)) j 0 ≤ get_or (part ws (get_or ws i 0) (get_or ws (i + 1) 0)) k 0
+  part_rises j k le h =
+      let l = long in
+      rw (at j (omega arith), at k (omega arith)) (⊎_elim
+      (λ (less : j < k). let up = columns_rise s n ws fs sound i low (get_or ws i 0 + j) (get_or ws i 0 + k) (omega arith) (omega arith) (omega arith) in omega arith)
+      (λ (same : k ≤ j). let e : j ≡ k = omega arith in rw e (omega arith))
+      (cases_lt j k))
+
+  pub sought_within : (k : ℕ) → k < length (part ws (get_or ws i 0) (get_or ws (i + 1) 0)) → get_or ws i 0 + k < length ws
+  sought_within k h = let l = long in let e = row_end in omega arith
+
+  -- a column that is there
+  pub sought_there : (k : ℕ) → k < length (part ws (get_or ws i 0) (get_or ws (i + 1) 0)) → get_or (part ws (get_or ws i 0) (get_or ws (i + 1) 0)) k 0 ≡ c → table s ws fs i c ≡ get_or fs (get_or ws i 0 + k) s.zero
+  sought_there k h is =
+      let l = long in
+      let here : get_or ws (get_or ws i 0 + k) 0 ≡ c = sym (at k (omega arith)) ∙ is in
+      table_off s ws fs i c off
+      ∙ found_first s ws fs c (get_or ws i 0) (get_or ws (i + 1) 0 - get_or ws i 0) (get_or ws i 0 + k) (omega arith) (omega arith) here
+      (λ j low' high z. let up = columns_rise s n ws fs sound i low j (get_or ws i 0 + k) low' high (omega arith) in omega arith)
+
+  -- a column that is not
+  pub sought_nowhere : ((k : ℕ) → k < length (part ws (get_or ws i 0) (get_or ws (i + 1) 0)) → get_or (part ws (get_or ws i 0) (get_or ws (i + 1) 0)) k 0 ≡ c → ⊥) → table s ws fs i c ≡ s.zero
+  sought_nowhere none =
+      table_off s ws fs i c off
+      ∙ not_found s ws fs c (get_or ws i 0) (get_or ws (i + 1) 0 - get_or ws i 0) (λ q low' high z.
+      let l = long in
+      let e : get_or ws i 0 + (q - get_or ws i 0) ≡ q = omega arith in
+      none (q - get_or ws i 0) (omega arith) (at (q - get_or ws i 0) (omega arith) ∙ (ap (λ x. get_or ws x 0) e ∙ z)))

@@ -6,3 +6,4 @@ pub mod Loading
 pub mod Writing
 pub mod Cursors
 pub mod Forms
+pub mod Sheets

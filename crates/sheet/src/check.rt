@@ -44,8 +44,7 @@ fn cell_keeps<F: Arithmetic>(
 }
 
 // One pass over a sheet: either it is sound, or the first position that breaks its rule is named, counted
-// from the start of the arrays that the sheet stands in. The row moves forward along with the position, so
-// there are at most length + order rounds in all.
+// from the start of the arrays that the sheet stands in.
 pub fn check_sheet<F: Arithmetic>(
     order: usize,
     start: usize,
@@ -60,15 +59,11 @@ pub fn check_sheet<F: Arithmetic>(
             return Err(Refusal::Position(start + p));
         }
     }
-    let mut row = 0;
-    let mut at = order + 1;
-    while at < words.len() {
-        if words[row + 1] as usize <= at {
-            row += 1;
-        } else if cell_keeps(order, words, figures, row, at) {
-            at += 1;
-        } else {
-            return Err(Refusal::Position(start + at));
+    for row in 0..order {
+        for p in words[row] as usize..words[row + 1] as usize {
+            if !cell_keeps(order, words, figures, row, p) {
+                return Err(Refusal::Position(start + p));
+            }
         }
     }
     Ok(())

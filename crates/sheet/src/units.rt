@@ -1,19 +1,18 @@
 ghost use Rattle.std.specs.Prelude.{◌≡◌, ◌+◌, ◌≤◌, length};
 ghost use Rattle.matrix.specs.Tables.{unit_table};
-ghost use Rattle.sheet.specs.Writing.{Appended};
+ghost use Rattle.sheet.specs.Writing.{Written};
 
+use crate::writing::start_row;
 use arithmetic::Arithmetic;
 
-// Writes the packed form of the unit table from `base` on: it is order + 1 long.
-pub fn write_unit<F: Arithmetic>(order: usize, base: usize, index: &mut [u32], figures: &mut [F])
-    requires { (length figures.old ≡ length index.old) × ((length index.old ≤ 65536) × (base + (order + 1) ≤ length index.old)) }
-    ensures { Appended F.Arithmetic.figures order (unit_table F.Arithmetic.figures.ring) base index.old figures.old index.new figures.new }
+// Writes the packed form of the unit table: it is order + 1 long.
+pub fn write_unit<F: Arithmetic>(order: usize, index: &mut [u32], figures: &mut [F])
+    requires { (length figures.old ≡ length index.old) × ((length index.old ≤ 65536) × (order + 1 ≤ length index.old)) }
+    ensures { Written F.Arithmetic.figures order (unit_table F.Arithmetic.figures.ring) index.old figures.old index.new figures.new }
 {
-    index[base] = (order + 1) as u32;
-    figures[base] = F::zero();
+    start_row(index, figures, 0, order + 1);
     for row in 0..order {
-        figures[base + row] = F::unit();
-        index[base + (row + 1)] = (order + 1) as u32;
-        figures[base + (row + 1)] = F::zero();
+        figures[row] = F::unit();
+        start_row(index, figures, row + 1, order + 1);
     }
 }

@@ -1,4 +1,4 @@
-use Rattle.std.proofs.Common.{ℕ, ◌+◌, ◌-◌, ◌<◌, length}
+use Rattle.std.proofs.Common.{ℕ, ◌<◌, slice_index}
 use Rattle.arithmetic.specs.Semiring.{meanings}
 use Rattle.sheet.specs.Packed.{Rule}
 use Rattle.sheet.proofs.Rows.{Walk}
@@ -9,9 +9,8 @@ invariant-loop-p g l =
     let a = g.F.Arithmetic.figures in
     (j : ℕ) → j < l.p → Rule a.ring l.order l.words (meanings a l.figures) j
 
-abbrev pub invariant-loop-at : goal.invariant-loop-at
-invariant-loop-at g l = let a = g.F.Arithmetic.figures in Walk a.ring l.order l.words (meanings a l.figures) l.at l.row
+abbrev pub invariant-loop-row : goal.invariant-loop-row
+invariant-loop-row g l = let a = g.F.Arithmetic.figures in Walk a.ring l.order l.words (meanings a l.figures) (slice_index l.words l.row) l.row
 
--- each round moves the position or the row on: at most length - 1 rounds, after the order + 1 of the head
-abbrev pub decreases-loop-at : goal.decreases-loop-at
-decreases-loop-at g l = (length l.words - l.at) + (l.order - l.row)
+abbrev pub invariant-loop-p-2 : goal.invariant-loop-p-2
+invariant-loop-p-2 g l = let a = g.F.Arithmetic.figures in Walk a.ring l.order l.words (meanings a l.figures) l.p l.row

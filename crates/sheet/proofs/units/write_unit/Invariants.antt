@@ -6,4 +6,4 @@ use Rattle.sheet.proofs.units.write_unit.Given as goal
 abbrev pub invariant-loop-row : goal.invariant-loop-row
 invariant-loop-row g l =
     let a = g.F.Arithmetic.figures in
-    Laying a l.order (unit_table a.ring) l.base l.initial.index l.initial.figures l.row 0 l.index l.figures (l.base + (l.order + 1))
+    Laying a l.order (unit_table a.ring) l.fn.index l.fn.figures l.row 0 l.index l.figures (l.order + 1)

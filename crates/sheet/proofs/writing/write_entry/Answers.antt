@@ -1,5 +1,5 @@
 use Rattle.std.proofs.Common.{◌≡◌, ℕ, ◌<◌, true, false, length, sym, refl, ◌∙◌, arith, rules}
-use Rattle.sheet.proofs.loading.write_entry.Goals as goal
+use Rattle.sheet.proofs.writing.write_entry.Goals as goal
 
 pub returns-then-is_zero : goal.returns-then-is_zero
 returns-then-is_zero g c =
