@@ -1,0 +1,47 @@
+ghost use Rattle.std.specs.Prelude.{◌≡◌, ◌≤◌, length};
+ghost use Rattle.sheet.specs.Packed.{packed_length};
+ghost use Rattle.sheet.specs.Writing.{Written};
+ghost use Rattle.sum.specs.Merging.{pair_sum};
+
+use crate::merge::Merge;
+use arithmetic::Arithmetic;
+use sheet::{Pair, places, start_row, write_entry};
+
+// How long the packed form of the sum of two sheets is.
+pub fn added_length<F: Arithmetic>(pair: &Pair<'_, F>) -> usize
+    ensures { result ≡ packed_length F.Arithmetic.figures.ring pair.now.first.order (pair_sum pair.now) }
+{
+    let mut merge = Merge::new(pair);
+    let mut length = pair.first.order + 1;
+    for row in 0..pair.first.order {
+        while let Some(cell) = merge.next_cell() {
+            length += places(row, cell.column, cell.figure);
+        }
+    }
+    length
+}
+
+// Writes the packed form of the sum of two sheets.
+pub fn write_added<F: Arithmetic>(pair: &Pair<'_, F>, index: &mut [u32], figures: &mut [F])
+    requires arrays { (length figures.old ≡ length index.old) × (length index.old ≤ 65536) }
+    requires room { packed_length F.Arithmetic.figures.ring pair.now.first.order (pair_sum pair.now) ≤ length index.old }
+    ensures { Written F.Arithmetic.figures pair.now.first.order (pair_sum pair.now) index.old figures.old index.new figures.new }
+{
+    let order = pair.first.order;
+    let mut merge = Merge::new(pair);
+    let mut at = order + 1;
+    start_row(index, figures, 0, at);
+    for row in 0..order {
+        while let Some(cell) = merge.next_cell() {
+            at = write_entry(
+                index,
+                figures,
+                at,
+                row as u32,
+                cell.column as u32,
+                cell.figure,
+            );
+        }
+        start_row(index, figures, row + 1, at);
+    }
+}
