@@ -1,11 +1,12 @@
 -- How often a column stands among the places of a sheet.
-use Rattle.std.proofs.Common.{◌≡◌, ℕ, zero, suc, ◌+◌, ◌-◌, ◌<◌, ◌≤◌, Bool, true, false, cond, not, ◌&&◌, eqb, ◌⊎◌, List, length, get_or, set, sym, refl, ap, ◌∙◌, subst, ap₂, inl, inr, ⊎_elim, add-one, arith}
-use Rattle.std.proofs.lemmas.List.{get_or-set_same, get_or-set_other, length_push}
+use Rattle.std.proofs.Common.{◌≡◌, ℕ, zero, suc, ◌+◌, ◌-◌, ◌<◌, ◌≤◌, Bool, true, false, cond, not, ◌&&◌, eqb, ◌⊎◌, List, length, get_or, take, drop, set, sym, refl, ap, ◌∙◌, subst, ap₂, inl, inr, ⊎_elim, add-one, arith}
+use Rattle.std.proofs.lemmas.List.{get_or-set_same, get_or-set_other, get_or-take, get_or-drop, length_push}
 use Rattle.std.proofs.lemmas.Bool.{cases_lt, cases_eq, cases_Bool, eq-eqb, ne_eqb}
 use Rattle.arithmetic.specs.Semiring.{Semiring}
 use Rattle.matrix.specs.Tables.{flipped}
 use Rattle.sheet.specs.Packed.{Sound, stored, columns_below, row_columns, row_start, packed_length, table}
 use Rattle.sheet.proofs.Found.{sound_rises, row_past, columns_rise}
+use Rattle.sheet.proofs.Known.{sound_known}
 use Rattle.sheet.proofs.Columns.{columns_yes, columns_no}
 use Rattle.sheet.proofs.Unique.{cell_stored, none_stored}
 use Rattle.transpose.specs.Flipping.{hits}
@@ -33,16 +34,19 @@ hits_none ws c q k (suc m) le none = ⊎_elim
     (λ (h : suc m ≤ k). let e : k ≡ suc m = omega arith in rw e refl)
     (cases_lt k (suc m))
 
-module _ (ws : List ℕ) (n q : ℕ) (counts : List ℕ) (long : length counts ≡ 1024) where
-  -- the count of a column that was met
-  pub counted_more : (from : ℕ) → from ≤ q → get_or ws q 0 < 1024 → ((c : ℕ) → c < 1024 → get_or counts c 0 ≡ hits ws c from (q - from)) → (c : ℕ) → c < 1024 → get_or (set counts (get_or ws q 0) (get_or counts (get_or ws q 0) 0 + 1)) c 0 ≡ hits ws c from (q + 1 - from)
-  counted_more from le low so_far c h = hits_step ∙ sym (hits_more ws c from q le)
-    where
-      hits_step : get_or (set counts (get_or ws q 0) (get_or counts (get_or ws q 0) 0 + 1)) c 0 ≡ hits ws c from (q - from) + cond (eqb (get_or ws q 0) c) 1 0
-      hits_step = ⊎_elim
-          (λ (e : get_or ws q 0 ≡ c). rw (eq-eqb (get_or ws q 0) c e, e) (get_or-set_same counts c (get_or counts c 0 + 1) 0 (omega arith) ∙ ap (λ x. x + 1) (so_far c h)))
-          (λ (ne : get_or ws q 0 ≡ c → ⊥). rw (ne_eqb (get_or ws q 0) c ne) (get_or-set_other counts (get_or ws q 0) c _ 0 (λ e. ne (sym e)) ∙ (so_far c h ∙ omega arith)))
-          (cases_eq (get_or ws q 0) c)
+-- the word that stands k places past place q
+pub word_past : (ws : List ℕ) (q k : ℕ) → k < length ws - q → get_or (take (length ws - q) (drop q ws)) k 0 ≡ get_or ws (q + k) 0
+word_past ws q k low = get_or-take (length ws - q) (drop q ws) k 0 low ∙ get_or-drop q ws k 0
+
+-- the count of a column that was met
+pub counted_more : (ws : List ℕ) (q m w : ℕ) → w ≡ get_or ws (q + m) 0 → w < 1024 → (counts : List ℕ) → length counts ≡ 1024 → ((c : ℕ) → c < 1024 → get_or counts c 0 ≡ hits ws c q m) → (c : ℕ) → c < 1024 → get_or (set counts w (get_or counts w 0 + 1)) c 0 ≡ hits ws c q (m + 1)
+counted_more ws q m w w_is low counts long so_far c h = one_more ∙ sym (ap (hits ws c q) (add-one m) ∙ ap (λ x. hits ws c q m + cond (eqb x c) 1 0) (sym w_is))
+  where
+    one_more : get_or (set counts w (get_or counts w 0 + 1)) c 0 ≡ hits ws c q m + cond (eqb w c) 1 0
+    one_more = ⊎_elim
+        (λ (e : w ≡ c). rw (eq-eqb w c e, e) (get_or-set_same counts c (get_or counts c 0 + 1) 0 (omega arith) ∙ ap (λ x. x + 1) (so_far c h)))
+        (λ (ne : w ≡ c → ⊥). rw (ne_eqb w c ne) (get_or-set_other counts w c _ 0 (λ e. ne (sym e)) ∙ (so_far c h ∙ omega arith)))
+        (cases_eq w c)
 
 -- whether a word stands among k places from p on
 look : (ws : List ℕ) (c p k : ℕ) → ((q : ℕ) × (p ≤ q) × (q < p + k) × (get_or ws q 0 ≡ c)) ⊎ ((q : ℕ) → p ≤ q → q < p + k → get_or ws q 0 ≡ c → ⊥)
@@ -60,6 +64,10 @@ look ws c p (suc k) = ⊎_elim
 
 eqb_swap : (i c : ℕ) → eqb i c ≡ eqb c i
 eqb_swap i c = ⊎_elim (λ (e : i ≡ c). eq-eqb i c e ∙ sym (eq-eqb c i (sym e))) (λ (ne : i ≡ c → ⊥). ne_eqb i c ne ∙ sym (ne_eqb c i (λ e. ne (sym e)))) (cases_eq i c)
+
+-- a column of a sheet
+pub column_past : {F : Type 0} (s : Semiring F) (n : ℕ) (ws : List ℕ) (fs : List F) → ∥ Sound s n ws fs ∥₁ → (k : ℕ) → k < length ws - (n + 1) → get_or (take (length ws - (n + 1)) (drop (n + 1) ws)) k 0 < n
+column_past s n ws fs t k low = rw (word_past ws (n + 1) k low) (((sound_known s n ws fs t).rules (n + 1 + k) (omega arith)).cell (omega arith)).column_below
 
 module _ {F : Type 0} (s : Semiring F) (n : ℕ) (ws : List ℕ) (fs : List F) (sound : Sound s n ws fs) where
   -- a cell is stored in a sheet just where the flipped table stores it

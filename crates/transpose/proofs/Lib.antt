@@ -1,5 +1,5 @@
 pub mod Hits
+pub mod Flips
 pub mod Heads
 pub mod Turns
-pub mod Placing
 pub mod Walks

@@ -1,5 +1,5 @@
 -- A sheet that is being flipped: how often each column stands in it, and the head of the flipped sheet.
-use Rattle.std.specs.Prelude.{◌≡◌, ℕ, zero, suc, ◌+◌, ◌<◌, ◌≤◌, cond, ◌⊎◌, List, length, get_or, ◌==◌, slice_index, slice_index_or}
+use Rattle.std.specs.Prelude.{◌≡◌, ℕ, zero, suc, ◌+◌, ◌<◌, ◌≤◌, cond, List, length, get_or, ◌==◌, slice_index, slice_index_or}
 use Rattle.arithmetic.specs.Semiring.{Figures, meanings}
 use Rattle.matrix.specs.Tables.{Table}
 use Rattle.sheet.specs.Packed.{row_start, packed_length}
@@ -9,16 +9,12 @@ abbrev pub hits : List ℕ → ℕ → ℕ → ℕ → ℕ
 hits ws c q zero = 0
 hits ws c q (suc m) = hits ws c q m + cond (slice_index ws (q + m) == c) 1 0
 
--- k is no place of a sheet of this size from base on
-abbrev pub Outside : ℕ → ℕ → ℕ → Type 0
-Outside base size k = (k < base) ⊎ (base + size ≤ k)
-
--- the packed form of t is being written from base on: its head is there, and nothing outside it was touched
-pub record HeadLaid {S : Type 0} (a : Figures S) (n : ℕ) (t : Table a.F) (base : ℕ) (ws : List ℕ) (fs : List S) (ws' : List ℕ) (fs' : List S) : Type 0 where
-  pub starts : (r : ℕ) → r ≤ n → slice_index ws' (base + r) ≡ row_start a.ring n t r
-  pub diagonal : (r : ℕ) → r < n → slice_index_or (meanings a fs') (base + r) a.ring.zero ≡ t r r
-  pub spare : get_or (meanings a fs') (base + n) a.ring.zero ≡ a.ring.zero
+-- the packed form of t is being written: its head is there, and no place past its length was touched
+pub record HeadLaid {S : Type 0} (a : Figures S) (n : ℕ) (t : Table a.F) (ws : List ℕ) (fs : List S) (ws' : List ℕ) (fs' : List S) : Type 0 where
+  pub starts : (r : ℕ) → r ≤ n → slice_index ws' r ≡ row_start a.ring n t r
+  pub diagonal : (r : ℕ) → r < n → slice_index_or (meanings a fs') r a.ring.zero ≡ t r r
+  pub spare : get_or (meanings a fs') n a.ring.zero ≡ a.ring.zero
   pub words_long : length ws' ≡ length ws
   pub figures_long : length fs' ≡ length fs
-  pub words_stay : (k : ℕ) → Outside base (packed_length a.ring n t) k → slice_index ws' k ≡ slice_index ws k
-  pub figures_stay : (k : ℕ) (d : S) → Outside base (packed_length a.ring n t) k → slice_index_or fs' k d ≡ slice_index_or fs k d
+  pub words_stay : (k : ℕ) → packed_length a.ring n t ≤ k → slice_index ws' k ≡ slice_index ws k
+  pub figures_stay : (k : ℕ) (d : S) → packed_length a.ring n t ≤ k → slice_index_or fs' k d ≡ slice_index_or fs k d

@@ -2,90 +2,91 @@
 // next free place of its new row.
 #![tactic(auto)]
 
-ghost use Rattle.std.specs.Prelude.{◌≡◌, ℕ, ◌+◌, ◌-◌, ◌<◌, ◌≤◌, length, slice_index};
+ghost use Rattle.std.specs.Prelude.{◌≡◌, ℕ, ◌+◌, ◌-◌, ◌<◌, ◌≤◌, length, slice_index, slice_set};
 ghost use Rattle.arithmetic.specs.Semiring.{meanings};
 ghost use Rattle.matrix.specs.Tables.{flipped};
-ghost use Rattle.sheet.specs.Packed.{Sound, table, row_start, row_columns};
-ghost use Rattle.sheet.specs.Writing.{part, Appended};
+ghost use Rattle.sheet.specs.Packed.{row_start, row_columns};
+ghost use Rattle.sheet.specs.Sheets.{table_of};
+ghost use Rattle.sheet.specs.Writing.{Written};
 ghost use Rattle.transpose.specs.Flipping.{hits, HeadLaid};
 
 use arithmetic::Arithmetic;
+use sheet::{Sheet, start_row};
 
 // How often each column stands in a sheet off the diagonal.
-fn count_columns(order: usize, words: &[u32]) -> [u32; 1024]
-    requires sizes { (order < length words.now) × (length words.now ≤ 65536) }
-    requires columns { (q : ℕ) → order < q → q < length words.now → slice_index words.now q < 1024 }
-    ensures long { length result ≡ 1024 }
-    ensures counts { (c : ℕ) → c < 1024 → slice_index result c ≡ hits words.now c (order + 1) (length words.now - (order + 1)) }
+fn count_columns<F: Arithmetic>(sheet: &Sheet<'_, F>) -> [u32; 1024]
+    requires small { (sheet.now.order ≤ 1024) × (length sheet.now.words.now ≤ 65536) }
+    ensures { (c : ℕ) → c < 1024 → slice_index result c ≡ hits sheet.now.words.now c (sheet.now.order + 1) (length sheet.now.words.now - (sheet.now.order + 1)) }
 {
     let mut counts = [0u32; 1024];
-    for q in order + 1..words.len() {
-        let column = words[q] as usize;
-        counts[column] += 1;
+    for column in &sheet.words[sheet.order + 1..] {
+        counts[*column as usize] += 1;
     }
     counts
 }
 
-// Writes the head of the flipped sheet from `base` on: the starts of its rows and its diagonal. `next` goes in with the
-// count of each column and comes out with the start of each new row.
+// Writes the head of the flipped sheet: the starts of its rows and its diagonal. `next` goes in with the count of each
+// column and comes out with the start of each new row.
 fn write_head<F: Arithmetic>(
-    order: usize,
+    sheet: &Sheet<'_, F>,
     index: &mut [u32],
     figures: &mut [F],
-    start: usize,
-    end: usize,
-    base: usize,
     next: &mut [u32; 1024],
 )
-    requires sound { Sound F.Arithmetic.figures.ring order (part index.old start end) (meanings F.Arithmetic.figures (part figures.old start end)) }
-    requires ends { (start ≤ end) × ((end ≤ base) × (base + (end - start) ≤ length index.old)) }
-    requires sizes { (length figures.old ≡ length index.old) × ((length index.old ≤ 65536) × ((order ≤ 1024) × (length next.old ≡ 1024))) }
-    requires counts { (c : ℕ) → c < order → slice_index next.old c ≡ length (row_columns F.Arithmetic.figures.ring order (flipped (table F.Arithmetic.figures.ring (part index.old start end) (meanings F.Arithmetic.figures (part figures.old start end)))) c) }
-    ensures head { HeadLaid F.Arithmetic.figures order (flipped (table F.Arithmetic.figures.ring (part index.old start end) (meanings F.Arithmetic.figures (part figures.old start end)))) base index.old figures.old index.new figures.new }
-    ensures long { length next.new ≡ 1024 }
-    ensures starts { (c : ℕ) → c < order → slice_index next.new c ≡ row_start F.Arithmetic.figures.ring order (flipped (table F.Arithmetic.figures.ring (part index.old start end) (meanings F.Arithmetic.figures (part figures.old start end)))) c }
+    requires small { sheet.now.order ≤ 1024 }
+    requires arrays { (length figures.old ≡ length index.old) × (length index.old ≤ 65536) }
+    requires room { length sheet.now.words.now ≤ length index.old }
+    requires counts { (c : ℕ) → c < sheet.now.order → slice_index next.old c ≡ length (row_columns F.Arithmetic.figures.ring sheet.now.order (flipped (table_of sheet.now)) c) }
+    ensures head { HeadLaid F.Arithmetic.figures sheet.now.order (flipped (table_of sheet.now)) index.old figures.old index.new figures.new }
+    ensures starts { (c : ℕ) → c < sheet.now.order → slice_index next.new c ≡ row_start F.Arithmetic.figures.ring sheet.now.order (flipped (table_of sheet.now)) c }
 {
-    let mut at = order + 1;
-    for row in 0..order {
+    let mut at = sheet.order + 1;
+    for row in 0..sheet.order {
         let size = next[row] as usize;
-        index[base + row] = at as u32;
-        figures[base + row] = figures[start + row];
+        index[row] = at as u32;
+        figures[row] = sheet.figures[row];
         next[row] = at as u32;
         at += size;
     }
-    index[base + order] = at as u32;
-    figures[base + order] = F::zero();
+    start_row(index, figures, sheet.order, at);
 }
 
-// Writes the packed form of the flipped sheet from `base` on: row by row, each cell goes to the next free place of its
-// column, so that the new rows come out sorted.
-pub fn write_flipped<F: Arithmetic>(
-    order: usize,
+// Writes a cell of the flipped sheet, whose row is `column`, to the next free place of that row.
+fn move_cell<F: Arithmetic>(
     index: &mut [u32],
     figures: &mut [F],
-    start: usize,
-    end: usize,
-    base: usize,
+    next: &mut [u32; 1024],
+    column: usize,
+    row: usize,
+    figure: F,
 )
-    requires sound { Sound F.Arithmetic.figures.ring order (part index.old start end) (meanings F.Arithmetic.figures (part figures.old start end)) }
-    requires ends { (start ≤ end) × ((end ≤ base) × (base + (end - start) ≤ length index.old)) }
-    requires sizes { (length figures.old ≡ length index.old) × ((length index.old ≤ 65536) × (order ≤ 1024)) }
-    ensures { Appended F.Arithmetic.figures order (flipped (table F.Arithmetic.figures.ring (part index.old start end) (meanings F.Arithmetic.figures (part figures.old start end)))) base index.old figures.old index.new figures.new }
+    requires cell { (column < 1024) × (row < 1024) }
+    requires arrays { (length figures.old ≡ length index.old) × (length index.old ≤ 65536) }
+    requires free { slice_index next.old column < length index.old }
+    ensures word { index.new ≡ slice_set index.old (slice_index next.old column) row }
+    ensures figure { figures.new ≡ slice_set figures.old (slice_index next.old column) figure }
+    ensures next { next.new ≡ slice_set next.old column (slice_index next.old column + 1) }
 {
-    let mut next = count_columns(order, &index[start..end]);
-    write_head(order, index, figures, start, end, base, &mut next);
-    let mut row = 0;
-    let mut q = order + 1;
-    while q < end - start {
-        if index[start + (row + 1)] as usize <= q {
-            row += 1;
-        } else {
-            let column = index[start + q] as usize;
-            let at = next[column] as usize;
-            index[base + at] = row as u32;
-            figures[base + at] = figures[start + q];
-            next[column] = (at + 1) as u32;
-            q += 1;
+    let at = next[column] as usize;
+    index[at] = row as u32;
+    figures[at] = figure;
+    next[column] += 1;
+}
+
+// Writes the packed form of the flipped sheet: row by row, each cell goes to the next free place of its column, so that
+// the new rows come out sorted.
+pub fn write_flipped<F: Arithmetic>(sheet: &Sheet<'_, F>, index: &mut [u32], figures: &mut [F])
+    requires small { (sheet.now.order ≤ 1024) × (length sheet.now.words.now ≤ 65536) }
+    requires arrays { (length figures.old ≡ length index.old) × (length index.old ≤ 65536) }
+    requires room { length sheet.now.words.now ≤ length index.old }
+    ensures { Written F.Arithmetic.figures sheet.now.order (flipped (table_of sheet.now)) index.old figures.old index.new figures.new }
+{
+    let mut next = count_columns(sheet);
+    write_head(sheet, index, figures, &mut next);
+    for row in 0..sheet.order {
+        for q in sheet.words[row] as usize..sheet.words[row + 1] as usize {
+            let column = sheet.words[q] as usize;
+            move_cell(index, figures, &mut next, column, row, sheet.figures[q]);
         }
     }
 }

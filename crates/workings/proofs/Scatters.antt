@@ -13,7 +13,6 @@ use Rattle.sheet.proofs.Found.{row_within, cell_at, found_here, found_past, foun
 -- a walk along row i stands at position p; what is left of the row, times f, has still to be added to out
 pub record Scattered {F : Type 0} (s : Semiring F) (n : ℕ) (ws : List ℕ) (fs : List F) (i : ℕ) (f : F) (before out : List F) (p : ℕ) : Type 0 where
   pub within : get_or ws (i + 1) 0 ≤ length ws
-  pub from : get_or ws i 0 ≤ p
   pub columns : (q : ℕ) → get_or ws i 0 ≤ q → q < get_or ws (i + 1) 0 → get_or ws q 0 < n
   pub sums : (c : ℕ) → c < n → s.add (figure_at s out c) (s.mul f (found s ws fs c p (get_or ws (i + 1) 0 - p))) ≡ s.add (figure_at s before c) (s.mul f (off_cell s ws fs i c))
 
@@ -24,22 +23,20 @@ module _ {F : Type 0} (s : Semiring F) (n : ℕ) (ws : List ℕ) (fs : List F) (
   pub scatter_none : (out : List F) → Scattered s n ws fs i f out out (get_or ws i 0)
   scatter_none out = record {
     within = row_within s n ws fs sound (i + 1) (omega arith);
-    from = omega arith;
     columns = λ q from to. (cell_at s n ws fs sound i low q from to).0;
     sums = λ c h. refl;
   }
 
-  pub scatter_more : (before out : List F) (u : F) (p : ℕ) → n ≤ length out → p < get_or ws (i + 1) 0 → u ≡ s.add (figure_at s out (get_or ws p 0)) (s.mul f (get_or fs p s.zero)) → Scattered s n ws fs i f before out p → Scattered s n ws fs i f before (set out (get_or ws p 0) u) (p + 1)
-  scatter_more before out u p room to e so_far = record {
+  pub scatter_more : (before out : List F) (u : F) (p : ℕ) → n ≤ length out → get_or ws i 0 ≤ p → p < get_or ws (i + 1) 0 → u ≡ s.add (figure_at s out (get_or ws p 0)) (s.mul f (get_or fs p s.zero)) → Scattered s n ws fs i f before out p → Scattered s n ws fs i f before (set out (get_or ws p 0) u) (p + 1)
+  scatter_more before out u p room from to e so_far = record {
     within = so_far.within;
-    from = omega (arith, so_far.from);
     columns = so_far.columns;
     sums = λ c h. ⊎_elim
         (λ (same : c ≡ get_or ws p 0).
-        let column = so_far.columns p so_far.from to in
+        let column = so_far.columns p from to in
         let in_range : get_or ws p 0 < length out = omega arith in
         rw (same, get_or-set_same out (get_or ws p 0) u s.zero in_range)
-        (nothing _ _ (found_once s n ws fs i p to sound low so_far.from) ∙ (e ∙ (ap (λ y. s.add (figure_at s out (get_or ws p 0)) (s.mul f y)) (sym (found_here s n ws fs i p to)) ∙ so_far.sums (get_or ws p 0) column))))
+        (nothing _ _ (found_once s n ws fs i p to sound low from) ∙ (e ∙ (ap (λ y. s.add (figure_at s out (get_or ws p 0)) (s.mul f y)) (sym (found_here s n ws fs i p to)) ∙ so_far.sums (get_or ws p 0) column))))
         (λ (ne : c ≡ get_or ws p 0 → ⊥). rw (get_or-set_other out (get_or ws p 0) c u s.zero ne, sym (found_past s n ws fs i p to c ne)) (so_far.sums c h))
         (cases_eq c (get_or ws p 0));
   }

@@ -1,22 +1,37 @@
-use Rattle.std.proofs.Common.{◌≡◌, ◌+◌, ◌-◌, ◌<◌, get_or, refl, ◌∙◌, arith, length-set}
+use Rattle.std.proofs.Common.{◌+◌, ◌-◌, length, get_or, take, drop, refl, ◌∙◌, arith, length-set}
 use Rattle.std.proofs.lemmas.List.{get_or-replicate}
-use Rattle.transpose.proofs.Hits.{counted_more, hits_few}
+use Rattle.transpose.proofs.Hits.{word_past, counted_more, hits_few, column_past}
 use Rattle.transpose.proofs.count_columns.Goals as goal
 
-pub loop-q-init : goal.loop-q-init
-loop-q-init c = (refl, λ k low. let none : (c.args.order + 1) - (c.args.order + 1) ≡ 0 = omega arith in rw none (get_or-replicate 1024 k 0 0 low))
+pub loop-column-init : goal.loop-column-init
+loop-column-init g c = (refl, λ k low. get_or-replicate 1024 k 0 0 low)
+
+pub bounds-counts-column : goal.bounds-counts-column
+bounds-counts-column g c =
+    let a = g.F.Arithmetic.figures in
+    let sheet = c.args.sheet.now in
+    omega (arith, column_past a.ring sheet.order sheet.words.now _ sheet.sound c.loop-column.column-index (omega arith))
 
 pub overflow_add-counts : goal.overflow_add-counts
-overflow_add-counts c =
-    let column = get_or c.args.words.now c.loop-q.q 0 in
-    let low : column < 1024 = c.requires.columns c.loop-q.q (omega arith) (omega arith) in
-    let is = c.loop-q.invariant.1 column low in
-    let few = hits_few c.args.words.now column (c.args.order + 1) (c.loop-q.q - (c.args.order + 1)) in
-    let sizes = c.requires.sizes in
+overflow_add-counts g c =
+    let a = g.F.Arithmetic.figures in
+    let sheet = c.args.sheet.now in
+    let column = get_or (take (length sheet.words.now - (sheet.order + 1)) (drop (sheet.order + 1) sheet.words.now)) c.loop-column.column-index 0 in
+    let low = column_past a.ring sheet.order sheet.words.now _ sheet.sound c.loop-column.column-index (omega arith) in
+    let is = c.loop-column.invariant.1 column (omega arith) in
+    let few = hits_few sheet.words.now column (sheet.order + 1) c.loop-column.column-index in
     omega arith
 
-pub loop-q-preserved : goal.loop-q-preserved
-loop-q-preserved c =
-    let column = get_or c.args.words.now c.loop-q.q 0 in
-    let low : column < 1024 = c.requires.columns c.loop-q.q (omega arith) (omega arith) in
-    (length-set c.loop-q.counts column _ ∙ c.loop-q.invariant.0, counted_more c.args.words.now c.args.order c.loop-q.q c.loop-q.counts c.loop-q.invariant.0 (c.args.order + 1) (omega arith) low c.loop-q.invariant.1)
+pub bounds-counts-column-in-loop-column : goal.bounds-counts-column-in-loop-column
+bounds-counts-column-in-loop-column g c =
+    let a = g.F.Arithmetic.figures in
+    let sheet = c.args.sheet.now in
+    omega (arith, column_past a.ring sheet.order sheet.words.now _ sheet.sound c.loop-column.column-index (omega arith))
+
+pub loop-column-preserved : goal.loop-column-preserved
+loop-column-preserved g c =
+    let a = g.F.Arithmetic.figures in
+    let sheet = c.args.sheet.now in
+    let low = column_past a.ring sheet.order sheet.words.now _ sheet.sound c.loop-column.column-index (omega arith) in
+    let counts = c.loop-column.invariant in
+    (length-set c.loop-column.counts _ _ ∙ counts.0, counted_more sheet.words.now (sheet.order + 1) c.loop-column.column-index _ (word_past sheet.words.now (sheet.order + 1) c.loop-column.column-index (omega arith)) (omega arith) c.loop-column.counts counts.0 counts.1)

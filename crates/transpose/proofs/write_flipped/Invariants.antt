@@ -1,9 +1,9 @@
-use Rattle.std.proofs.Common.{◌+◌, ◌-◌}
+use Rattle.std.proofs.Common.{get_or}
 use Rattle.transpose.proofs.Walks.{Walking}
 use Rattle.transpose.proofs.write_flipped.Given as goal
 
-abbrev pub invariant-loop-q : goal.invariant-loop-q
-invariant-loop-q g l = Walking g.F.Arithmetic.figures l.order l.start l.end l.base l.initial.index l.initial.figures l.row l.q l.index l.figures l.next
+abbrev pub invariant-loop-row : goal.invariant-loop-row
+invariant-loop-row g l = Walking g.F.Arithmetic.figures l.sheet.order l.sheet.words.now l.sheet.figures.now l.fn.index l.fn.figures (get_or l.sheet.words.now l.row 0) l.index l.figures l.next
 
-abbrev pub decreases-loop-q : goal.decreases-loop-q
-decreases-loop-q g l = (l.end - l.start - l.q) + (l.order - l.row)
+abbrev pub invariant-loop-q : goal.invariant-loop-q
+invariant-loop-q g l = Walking g.F.Arithmetic.figures l.sheet.order l.sheet.words.now l.sheet.figures.now l.fn.index l.fn.figures l.q l.index l.figures l.next

@@ -5,4 +5,4 @@ use Rattle.workings.proofs.scatter_row.Given as goal
 abbrev pub invariant-loop-p : goal.invariant-loop-p
 invariant-loop-p g l =
     let a = g.F.Arithmetic.figures in
-    Scattered a.ring l.order l.words (meanings a l.figures) l.i (a.meaning l.factor) (meanings a l.initial.out) (meanings a l.out) l.p
+    Scattered a.ring l.sheet.order l.sheet.words.now (meanings a l.sheet.figures.now) l.i (a.meaning l.factor) (meanings a l.fn.out) (meanings a l.out) l.p

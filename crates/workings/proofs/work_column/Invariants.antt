@@ -8,6 +8,6 @@ use Rattle.workings.proofs.work_column.Given as goal
 abbrev pub invariant-loop-p : goal.invariant-loop-p
 invariant-loop-p g l =
     let a = g.F.Arithmetic.figures in
-    let fs = meanings a l.figures in
+    let fs = meanings a l.sheet.figures.now in
     let v = figure_at a.ring (meanings a l.x) in
-    (get_or l.words (l.i + 1) 0 ≤ length l.words) × (get_or l.words l.i 0 ≤ l.p) × (a.ring.add (a.meaning l.total) (rest a.ring l.order l.words fs v l.i l.p) ≡ column_worked a.ring l.order (table a.ring l.words fs) v l.i)
+    (get_or l.sheet.words.now (l.i + 1) 0 ≤ length l.sheet.words.now) × (a.ring.add (a.meaning l.total) (rest a.ring l.sheet.order l.sheet.words.now fs v l.i l.p) ≡ column_worked a.ring l.sheet.order (table a.ring l.sheet.words.now fs) v l.i)

@@ -15,4 +15,4 @@ loop-i-preserved g c =
 pub returns : goal.returns
 returns g c =
     let a = g.F.Arithmetic.figures in
-    fill_by_all _ (meanings a c.loop-i.out) c.args.order a.ring.zero (simp length-meanings (omega arith)) (λ k h. c.loop-i.invariant k (omega arith))
+    fill_by_all _ (meanings a c.loop-i.out) c.args.sheet.now.order a.ring.zero (simp length-meanings (omega arith)) (λ k h. c.loop-i.invariant k (omega arith))

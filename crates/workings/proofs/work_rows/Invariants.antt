@@ -6,4 +6,4 @@ use Rattle.workings.proofs.work_rows.Given as goal
 abbrev pub invariant-loop-i : goal.invariant-loop-i
 invariant-loop-i g l =
     let a = g.F.Arithmetic.figures in
-    Spread a.ring l.order l.words (meanings a l.figures) (figure_at a.ring (meanings a l.y)) (meanings a l.out) l.i
+    Spread a.ring l.sheet.order l.sheet.words.now (meanings a l.sheet.figures.now) (figure_at a.ring (meanings a l.y)) (meanings a l.out) l.i
