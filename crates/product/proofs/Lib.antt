@@ -1,3 +1,4 @@
+pub mod Pairs
 pub mod Touched
 pub mod Chains
 pub mod Meets

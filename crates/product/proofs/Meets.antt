@@ -5,8 +5,9 @@ use Rattle.std.proofs.lemmas.Bool.{cases_eq, eq-eqb, ne_eqb}
 use Rattle.arithmetic.specs.Semiring.{Semiring}
 use Rattle.sheet.specs.Packed.{found}
 use Rattle.sheet.proofs.Found.{not_found}
+use Rattle.product.specs.declared.meetings.Meeting.{Meeting}
 use Rattle.product.specs.declared.meetings.Meetings.{Meetings}
-use Rattle.product.specs.Meetings.{meeting, pushed, cleared, Shaped, Idle, Linked, list_sum, Lists}
+use Rattle.product.specs.Meetings.{meeting_in, meeting, pushed, cleared, Shaped, Idle, Linked, list_sum, Lists}
 use Rattle.product.proofs.Chains.{list_more, list_stays, zeros_at}
 use Rattle.product.proofs.Touched.{absent_after, narrow_after}
 
@@ -25,7 +26,7 @@ module _ {F : Type 0} (s : Semiring F) (n : ℕ) (small : n ≤ 1024) (fs gs : L
       right_within = λ q pos few. absurd (omega arith);
     };
     marked = record {
-      shaped = record { heads = idle.shaped.heads; words = refl; nexts = idle.shaped.nexts; lefts = idle.shaped.lefts; rights = idle.shaped.rights };
+      shaped = record { heads = idle.shaped.heads; words = refl; room = idle.shaped.room };
       narrow = λ g. rw (zeros_at 16 g) (omega arith);
       below = λ c h. rw (idle.none c h) (omega arith);
       marks = λ c h absent. idle.none c h;
@@ -42,19 +43,26 @@ module _ {F : Type 0} (s : Semiring F) (n : ℕ) (small : n ≤ 1024) (fs gs : L
     head_was : get_or m.head c 0 ≤ m.count
     head_was = ls.marked.below c c_low
 
-    -- what a write at the new meeting leaves, and what it gives
-    after_at : (xs : List ℕ) (x : ℕ) → length xs ≡ 65536 → (P : ℕ → ℕ → Type 0) → P (m.count + 1) x → ((q : ℕ) → 0 < q → q ≤ m.count → P q (get_or xs q 0)) → (q : ℕ) → 0 < q → q ≤ m.count + 1 → P q (get_or (set xs (m.count + 1) x) q 0)
-    after_at xs x long P new old q pos few = ⊎_elim
-        (λ (e : q ≡ m.count + 1). subst (λ i. P i (get_or (set xs (m.count + 1) x) i 0)) (sym e) (subst (P (m.count + 1)) (sym (get_or-set_same xs (m.count + 1) x 0 (omega arith))) new))
-        (λ (ne : q ≡ m.count + 1 → ⊥). subst (P q) (sym (get_or-set_other xs (m.count + 1) q x 0 ne)) (old q pos (omega (arith, ne))))
+    -- the new meeting
+    abbrev new : Meeting
+    new = record { before = get_or m.head c 0; left = l; right = r }
+
+    new_is : meeting_in (set m.meetings (m.count + 1) new) (m.count + 1) ≡ new
+    new_is = let long = shape.room in get_or-set_same m.meetings (m.count + 1) new _ (omega arith)
+
+    -- what it and the others keep, all keep
+    after_new : (P : ℕ → Meeting → Type 0) → P (m.count + 1) new → ((q : ℕ) → 0 < q → q ≤ m.count → P q (meeting_in m.meetings q)) → (q : ℕ) → 0 < q → q ≤ m.count + 1 → P q (meeting_in (set m.meetings (m.count + 1) new) q)
+    after_new P here old q pos few = ⊎_elim
+        (λ (e : q ≡ m.count + 1). subst (λ i. P i (meeting_in (set m.meetings (m.count + 1) new) i)) (sym e) (subst (P (m.count + 1)) (sym new_is) here))
+        (λ (ne : q ≡ m.count + 1 → ⊥). subst (P q) (sym (get_or-set_other m.meetings (m.count + 1) q new _ ne)) (old q pos (omega (arith, ne))))
         (cases_eq q (m.count + 1))
 
     linked_now : Linked (length fs) (length gs) (meeting c l r m)
     linked_now = record {
       few = omega arith;
-      down = after_at m.next (get_or m.head c 0) shape.nexts (λ q x. x < q) (let h = head_was in omega arith) ls.linked.down;
-      left_within = after_at m.left l shape.lefts (λ q x. x < length fs) l_low ls.linked.left_within;
-      right_within = after_at m.right r shape.rights (λ q x. x < length gs) r_low ls.linked.right_within;
+      down = after_new (λ q x. x.before < q) (let h = head_was in omega arith) ls.linked.down;
+      left_within = after_new (λ q x. x.left < length fs) l_low ls.linked.left_within;
+      right_within = after_new (λ q x. x.right < length gs) r_low ls.linked.right_within;
     }
 
     head_here : get_or (set m.head c (m.count + 1)) c 0 ≡ m.count + 1
@@ -73,9 +81,7 @@ module _ {F : Type 0} (s : Semiring F) (n : ℕ) (small : n ≤ 1024) (fs gs : L
         shaped = record {
           heads = length-set m.head c (m.count + 1) ∙ shape.heads;
           words = length-set m.touched (c / 64) _ ∙ shape.words;
-          nexts = length-set m.next (m.count + 1) _ ∙ shape.nexts;
-          lefts = length-set m.left (m.count + 1) l ∙ shape.lefts;
-          rights = length-set m.right (m.count + 1) r ∙ shape.rights;
+          room = length-set m.meetings (m.count + 1) new ∙ shape.room;
         };
         narrow = narrow_after m.touched c word_low ls.marked.narrow;
         below = λ d low. ⊎_elim
@@ -87,8 +93,8 @@ module _ {F : Type 0} (s : Semiring F) (n : ℕ) (small : n ≤ 1024) (fs gs : L
       sums = λ d low. ⊎_elim
           (λ (e : d ≡ c). rw (e, head_here) (
           list_more s fs gs (meeting c l r m) (length fs) (length gs) linked_now (m.count + 1) (omega arith) (omega arith)
-          ∙ (ap₂ s.add (ap₂ (λ x y. s.mul (get_or fs x s.zero) (get_or gs y s.zero)) (get_or-set_same m.left (m.count + 1) l 0 (let long = shape.lefts in omega arith)) (get_or-set_same m.right (m.count + 1) r 0 (let long = shape.rights in omega arith)))
-          (ap (list_sum s fs gs (meeting c l r m)) (get_or-set_same m.next (m.count + 1) (get_or m.head c 0) 0 (let long = shape.nexts in omega arith)) ∙ (list_stays s fs gs m (length fs) (length gs) ls.linked c l r (get_or m.head c 0) head_was ∙ ls.sums c c_low))
+          ∙ (ap₂ s.add (ap (λ (x : Meeting). s.mul (get_or fs x.left s.zero) (get_or gs x.right s.zero)) new_is)
+          (ap (λ (x : Meeting). list_sum s fs gs (meeting c l r m) x.before) new_is ∙ (list_stays s fs gs m (length fs) (length gs) ls.linked c l r (get_or m.head c 0) head_was ∙ ls.sums c c_low))
           ∙ sym here)))
           (λ (ne : d ≡ c → ⊥). rw (head_other d ne) (list_stays s fs gs m (length fs) (length gs) ls.linked c l r (get_or m.head d 0) (ls.marked.below d low) ∙ (ls.sums d low ∙ sym (other d low ne))))
           (cases_eq d c);
@@ -114,6 +120,10 @@ module _ {F : Type 0} (s : Semiring F) (n : ℕ) (small : n ≤ 1024) (fs gs : L
       (λ (ne : d ≡ c → ⊥). rw (ne_eqb d c ne) refl)
       (cases_eq d c))
       all
+
+pub pushed_from : (us : List ℕ) (l q k : ℕ) (m : Meetings) → (pushed us l q k m).from ≡ m.from
+pushed_from us l q zero m = refl
+pushed_from us l q (suc k) m = pushed_from us l (q + 1) k (meeting (get_or us q 0) l q m)
 
 pub pushed_count : (us : List ℕ) (l q k : ℕ) (m : Meetings) → (pushed us l q k m).count ≡ m.count + k
 pushed_count us l q zero m = omega arith

@@ -1,115 +1,60 @@
--- The product of two sheets of a book, written after them.
-use Rattle.std.proofs.Common.{◌≡◌, ℕ, ◌+◌, ◌<◌, ◌≤◌, List, length, set, Some, None, sym, refl, subst, arith}
-use Rattle.arithmetic.specs.Semiring.{Figures, meanings}
-use Rattle.matrix.specs.Tables.{Table}
-use Rattle.matrix.proofs.Meant.{length-meanings}
-use Rattle.sheet.specs.Packed.{Sound, packed_length}
-use Rattle.sheet.specs.Writing.{part, Appended, EntryWritten}
-use Rattle.sheet.proofs.Laying.{Laying, spot_within, laying_none, laying_entry, laying_room, laying_row, laying_skip, laying_all, laying_part}
+-- The product of two sheets, written row by row.
+use Rattle.std.proofs.Common.{◌≡◌, ℕ, ◌+◌, ◌<◌, ◌≤◌, List, length, Some, None, refl, arith}
+use Rattle.arithmetic.specs.Semiring.{meanings}
+use Rattle.arithmetic.specs.declared.Arithmetic.{Ghosts}
+use Rattle.sheet.specs.declared.sound.Pair.{Pair}
+use Rattle.sheet.specs.Packed.{packed_length}
+use Rattle.sheet.specs.Writing.{RowStarted, EntryWritten}
+use Rattle.sheet.proofs.Laying.{Laying, head_room, spot_within, laying_entry, laying_room, laying_row, laying_skip}
 use Rattle.product.specs.declared.meetings.Meetings.{Meetings}
-use Rattle.product.specs.declared.meetings.RowCell.{RowCell}
-use Rattle.product.specs.Meetings.{Idle, Linked, Marked, Lists, NextCell, multiplied}
-use Rattle.product.proofs.Resting.{Rest, rest_none, cell_from, cell_below, cell_gap, cell_is, rest_more, end_gap, rest_all}
+use Rattle.sheet.specs.declared.sound.RowCell.{RowCell}
+use Rattle.product.specs.Meetings.{Lists, NextCell, pair_product}
+use Rattle.product.proofs.Resting.{Rest, rest_none, from_is, cell_from, cell_below, cell_gap, cell_is, rest_more, end_gap}
 
--- the product of the sheets from f to fe and from g to ge
-abbrev pub product_at : {S : Type 0} (a : Figures S) → ℕ → ℕ → ℕ → ℕ → ℕ → List ℕ → List S → Table a.F
-product_at a n f fe g ge ws fs = multiplied a n (part ws f fe) (part fs f fe) (part ws g ge) (part fs g ge)
+module _ {S : Type 0} {g : Ghosts S} (pair : Pair S g) (ws : List ℕ) (fs : List S) where
+  abbrev n : ℕ
+  n = pair.first.order
 
--- the cells before (row, from) are written, and the lists of the row from there on are left
-pub record Multiplying {S : Type 0} (a : Figures S) (n f fe g ge base : ℕ) (ws : List ℕ) (fs : List S) (row from : ℕ) (m : Meetings) (ws' : List ℕ) (fs' : List S) (at : ℕ) : Type 0 where
-  pub within : row ≤ n
-  pub laying : Laying a n (product_at a n f fe g ge ws fs) base ws fs row from ws' fs' at
-  pub rest : row < n → Rest a.ring (meanings a (part fs f fe)) (meanings a (part fs g ge)) n (product_at a n f fe g ge ws fs row) from m
-  pub done : n ≤ row → from ≡ 0
+  -- the cells before a row and a column are written
+  abbrev pub Laid : ℕ → ℕ → List ℕ → List S → ℕ → Type 0
+  Laid = Laying g.figures n (pair_product pair) ws fs
 
-module _ {S : Type 0} (a : Figures S) (n f fe g ge base : ℕ) (ws : List ℕ) (fs : List S) (small : n ≤ 1024) (before : fe ≤ base) (before' : ge ≤ base) (room : base + packed_length a.ring n (product_at a n f fe g ge ws fs) ≤ length ws) (level : length fs ≡ length ws) where
-  -- a new row, whose meetings are listed from the arrays as they are now
-  pub multiplying_next : (row : ℕ) (m : Meetings) (ws' : List ℕ) (fs' : List S) (at : ℕ) → row ≤ n → Laying a n (product_at a n f fe g ge ws fs) base ws fs row 0 ws' fs' at → (row < n → Lists a.ring (meanings a (part fs' f fe)) (meanings a (part fs' g ge)) m n (product_at a n f fe g ge ws' fs' row)) → Multiplying a n f fe g ge base ws fs row 0 m ws' fs' at
-  multiplying_next row m ws' fs' at high l lists =
-      let one = laying_part a n (product_at a n f fe g ge ws fs) base ws fs room level row 0 ws' fs' at l f fe before in
-      let two = laying_part a n (product_at a n f fe g ge ws fs) base ws fs room level row 0 ws' fs' at l g ge before' in
-      record {
-        within = high;
-        laying = l;
-        rest = λ low. rest_none a.ring (meanings a (part fs f fe)) (meanings a (part fs g ge)) n (product_at a n f fe g ge ws fs row) m (rw (one.0, one.1, two.0, two.1) at (lists low));
-        done = λ all. refl;
-      }
+  -- the cells before those whose lists are left are written
+  pub record Multiplying (row : ℕ) (m : Meetings) (ws' : List ℕ) (fs' : List S) (at : ℕ) : Type 0 where
+    pub laid : Laid row m.from ws' fs' at
+    pub rest : Rest pair row m
 
-  pub multiplying_none : (z : S) → a.meaning z ≡ a.ring.zero → ws ≡ set ws base (n + 1) → fs ≡ set fs base z → (m : Meetings) → (0 < n → Lists a.ring (meanings a (part fs f fe)) (meanings a (part fs g ge)) m n (product_at a n f fe g ge ws fs 0)) → Multiplying a n f fe g ge base ws fs 0 0 m ws fs (base + (n + 1))
-  multiplying_none z z_is we fe' m lists =
-      let l = laying_none a n (product_at a n f fe g ge ws fs) base ws fs room level z z_is in
-      multiplying_next 0 m ws fs (base + (n + 1)) (omega arith)
-      (subst (λ x. Laying a n (product_at a n f fe g ge ws fs) base ws fs 0 0 x fs (base + (n + 1))) (sym we) (subst (λ y. Laying a n (product_at a n f fe g ge ws fs) base ws fs 0 0 (set ws base (n + 1)) y (base + (n + 1))) (sym fe') l))
-      lists
+  pub multiplying_none : (row : ℕ) (m : Meetings) → (m.from ≡ 0) → Lists g.figures.ring (meanings g.figures pair.first.figures.now) (meanings g.figures pair.second.figures.now) m n (pair_product pair row) → (ws' : List ℕ) (fs' : List S) (at : ℕ) → Laid row 0 ws' fs' at → Multiplying row m ws' fs' at
+  multiplying_none row m whole ls ws' fs' at l = record { laid = rw whole l; rest = rest_none pair row m whole ls }
 
-  module _ (row from : ℕ) (m : Meetings) (ws' : List ℕ) (fs' : List S) (at : ℕ) (low : row < n) (s : Multiplying a n f fe g ge base ws fs row from m ws' fs' at) where
-    one : (part ws' f fe ≡ part ws f fe) × (part fs' f fe ≡ part fs f fe)
-    one = laying_part a n (product_at a n f fe g ge ws fs) base ws fs room level row from ws' fs' at s.laying f fe before
+  module _ (room : packed_length g.figures.ring n (pair_product pair) ≤ length ws) (level : length fs ≡ length ws) where
+    pub heads_fit : n + 1 ≤ length ws
+    heads_fit = head_room g.figures n (pair_product pair) ws fs room level
 
-    two : (part ws' g ge ≡ part ws g ge) × (part fs' g ge ≡ part fs g ge)
-    two = laying_part a n (product_at a n f fe g ge ws fs) base ws fs room level row from ws' fs' at s.laying g ge before'
+    module _ (row : ℕ) (low : row < n) {m : Meetings} {ws' : List ℕ} {fs' : List S} {at : ℕ} (l : Multiplying row m ws' fs' at) where
+      module _ (cell : RowCell S) (m' : Meetings) (next : NextCell g.figures n pair.first.figures.now pair.second.figures.now m (Some cell) m') where
+        reached : Laid row cell.column ws' fs' at
+        reached = laying_skip g.figures n (pair_product pair) ws fs room level row m.from cell.column low (cell_from pair row l.rest cell m' next) ws' fs' at (cell_gap pair row l.rest cell m' next) l.laid
 
-    -- what the next cell asks for
-    pub lists_there : Linked (length (part fs' f fe)) (length (part fs' g ge)) m × Marked n m × (from ≤ n)
-    lists_there = (rw (one.1, two.1) (rw (length-meanings a (part fs f fe), length-meanings a (part fs g ge)) at (s.rest low).linked), (s.rest low).marked, (s.rest low).high)
+        pub cell_room : (cell.column ≡ row → ⊥) → (g.figures.meaning cell.figure ≡ g.figures.ring.zero → ⊥) → at < length ws
+        cell_room = laying_room g.figures n (pair_product pair) ws fs room level row cell.column low ws' fs' at reached (cell_below pair row l.rest cell m' next) cell.figure (cell_is pair row l.rest cell m' next)
 
-    abbrev t : Table a.F
-    t = product_at a n f fe g ge ws fs
+        pub multiplying_more : (ws'' : List ℕ) (fs'' : List S) (at' : ℕ) → EntryWritten g.figures row cell.column cell.figure at ws' fs' ws'' fs'' at' → Multiplying row m' ws'' fs'' at'
+        multiplying_more ws'' fs'' at' w = record {
+          laid = rw (from_is pair row l.rest cell m' next) (laying_entry g.figures n (pair_product pair) ws fs room level row cell.column low ws' fs' at reached (cell_below pair row l.rest cell m' next) cell.figure (cell_is pair row l.rest cell m' next) ws'' fs'' at' w);
+          rest = rest_more pair row l.rest cell m' next;
+        }
 
-    module _ (cell : RowCell S) (m' : Meetings) (found : NextCell a n (part fs' f fe) (part fs' g ge) from m (Some cell) m') where
-      next : NextCell a n (part fs f fe) (part fs g ge) from m (Some cell) m'
-      next = rw (one.1, two.1) at found
+      module _ (m' : Meetings) (next : NextCell g.figures n pair.first.figures.now pair.second.figures.now m None m') where
+        over : Laid row n ws' fs' at
+        over = laying_skip g.figures n (pair_product pair) ws fs room level row m.from n low l.rest.high ws' fs' at (end_gap pair row l.rest m' next) l.laid
 
-      pub cell_bounds : (from ≤ cell.column) × (cell.column < n)
-      cell_bounds = (cell_from a n small (part fs f fe) (part fs g ge) (t row) from m (s.rest low) cell m' next, cell_below a n small (part fs f fe) (part fs g ge) (t row) from m (s.rest low) cell m' next)
+        -- where the row ends
+        pub row_end : at ≤ length ws
+        row_end =
+            let here = over.at_is in
+            let fits = spot_within g.figures.ring n (pair_product pair) row n low (omega arith) in
+            omega arith
 
-      figure_is : a.meaning cell.figure ≡ t row cell.column
-      figure_is = cell_is a n small (part fs f fe) (part fs g ge) (t row) from m (s.rest low) cell m' next
-
-      reached : Laying a n t base ws fs row cell.column ws' fs' at
-      reached = laying_skip a n t base ws fs room level row from cell.column low cell_bounds.0 ws' fs' at (cell_gap a n small (part fs f fe) (part fs g ge) (t row) from m (s.rest low) cell m' next) s.laying
-
-      pub cell_room : (cell.column ≡ row → ⊥) → (a.meaning cell.figure ≡ a.ring.zero → ⊥) → at < length ws
-      cell_room = laying_room a n t base ws fs room level row cell.column low ws' fs' at reached cell_bounds.1 cell.figure figure_is
-
-      pub multiplying_more : (ws'' : List ℕ) (fs'' : List S) (at' : ℕ) → EntryWritten a base row cell.column cell.figure at ws' fs' ws'' fs'' at' → Multiplying a n f fe g ge base ws fs row (cell.column + 1) m' ws'' fs'' at'
-      multiplying_more ws'' fs'' at' w = record {
-        within = s.within;
-        laying = laying_entry a n t base ws fs room level row cell.column low ws' fs' at reached cell_bounds.1 cell.figure figure_is ws'' fs'' at' w;
-        rest = λ h. rest_more a n small (part fs f fe) (part fs g ge) (t row) from m (s.rest low) cell m' next;
-        done = λ all. absurd (omega arith);
-      }
-
-    module _ (m' : Meetings) (found : NextCell a n (part fs' f fe) (part fs' g ge) from m None m') where
-      none : NextCell a n (part fs f fe) (part fs g ge) from m None m'
-      none = found
-
-      pub row_idle : Idle n m'
-      row_idle = rest_all a n small (part fs f fe) (part fs g ge) (t row) from m (s.rest low) m' none
-
-      over : Laying a n t base ws fs row n ws' fs' at
-      over = laying_skip a n t base ws fs room level row from n low (s.rest low).high ws' fs' at (end_gap a n small (part fs f fe) (part fs g ge) (t row) from m (s.rest low) m' none) s.laying
-
-      -- where the row ends
-      pub row_end : (base ≤ at) × (at ≤ length ws)
-      row_end =
-          let here = over.at_is in
-          let fits = spot_within a.ring n t row n low (omega arith) in
-          (omega arith, omega arith)
-
-      pub row_laid : (x : ℕ) → base + x ≡ at → (z : S) → a.meaning z ≡ a.ring.zero → (ws'' : List ℕ) (fs'' : List S) → ws'' ≡ set ws' (base + (row + 1)) x → fs'' ≡ set fs' (base + (row + 1)) z → Laying a n t base ws fs (row + 1) 0 ws'' fs'' at
-      row_laid x x_is z z_is ws'' fs'' we fe' = laying_row a n t base ws fs room level row n low ws' fs' at over refl x x_is z z_is ws'' fs'' we fe'
-
-  -- the two sheets as they stand while a row is laid
-  pub sheets_stay : (row : ℕ) (ws' : List ℕ) (fs' : List S) (at : ℕ) → Laying a n (product_at a n f fe g ge ws fs) base ws fs row 0 ws' fs' at → Sound a.ring n (part ws f fe) (meanings a (part fs f fe)) → Sound a.ring n (part ws g ge) (meanings a (part fs g ge))
-      → Sound a.ring n (part ws' f fe) (meanings a (part fs' f fe)) × Sound a.ring n (part ws' g ge) (meanings a (part fs' g ge))
-  sheets_stay row ws' fs' at l sound sound' =
-      let one = laying_part a n (product_at a n f fe g ge ws fs) base ws fs room level row 0 ws' fs' at l f fe before in
-      let two = laying_part a n (product_at a n f fe g ge ws fs) base ws fs room level row 0 ws' fs' at l g ge before' in
-      (rw (one.0, one.1) sound, rw (two.0, two.1) sound')
-
-  pub multiplying_all : (row from : ℕ) (m : Meetings) (ws' : List ℕ) (fs' : List S) (at : ℕ) → n ≤ row → Multiplying a n f fe g ge base ws fs row from m ws' fs' at → Appended a n (product_at a n f fe g ge ws fs) base ws fs ws' fs'
-  multiplying_all row from m ws' fs' at all s =
-      let high = s.within in
-      let end : row ≡ n = omega arith in
-      (laying_all a n (product_at a n f fe g ge ws fs) base ws fs room level row end ws' fs' at (subst (λ c. Laying a n (product_at a n f fe g ge ws fs) base ws fs row c ws' fs' at) (s.done all) s.laying)).0
+        pub row_laid : (ws'' : List ℕ) (fs'' : List S) → RowStarted g.figures (row + 1) at ws' fs' ws'' fs'' → Laid (row + 1) 0 ws'' fs'' at
+        row_laid ws'' fs'' w = laying_row g.figures n (pair_product pair) ws fs room level row n low ws' fs' at over refl ws'' fs'' w

@@ -5,4 +5,4 @@ mod meetings;
 mod multiplying;
 
 pub use meetings::Meetings;
-pub use multiplying::{product_length_at, write_product};
+pub use multiplying::{product_length, write_product};

@@ -1,9 +1,13 @@
-use Rattle.std.proofs.Common.{◌+◌, ◌-◌, ◌*◌}
-use Rattle.product.proofs.Multiplies.{Multiplying}
+use Rattle.std.proofs.Common.{◌-◌}
+use Rattle.product.specs.Meetings.{Idle}
+use Rattle.product.proofs.Multiplies.{Laid, Multiplying}
 use Rattle.product.proofs.multiplying.write_product.Given as goal
 
 abbrev pub invariant-loop-row : goal.invariant-loop-row
-invariant-loop-row g l = Multiplying g.F.Arithmetic.figures l.order l.first l.first_end l.second l.second_end l.base l.initial.index l.initial.figures l.row l.from l.meetings l.index l.figures l.at
+invariant-loop-row g l = Laid l.pair l.fn.index l.fn.figures l.row 0 l.index l.figures l.at × Idle l.pair.first.order l.meetings
 
-abbrev pub decreases-loop-row : goal.decreases-loop-row
-decreases-loop-row g l = (l.order - l.row) * 2048 + (l.order - l.from)
+abbrev pub invariant-loop-cell : goal.invariant-loop-cell
+invariant-loop-cell g l = Multiplying l.pair l.fn.index l.fn.figures l.row l.meetings l.index l.figures l.at
+
+abbrev pub decreases-loop-cell : goal.decreases-loop-cell
+decreases-loop-cell g l = l.pair.first.order - l.meetings.from

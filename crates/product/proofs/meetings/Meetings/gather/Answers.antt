@@ -1,7 +1,8 @@
-use Rattle.std.proofs.Common.{◌<◌, get_or, ap, ◌∙◌, ap₂, arith}
+use Rattle.std.proofs.Common.{◌<◌, ap, ◌∙◌, ap₂, arith}
 use Rattle.arithmetic.specs.Semiring.{meanings}
-use Rattle.matrix.proofs.Meant.{read_means}
-use Rattle.product.proofs.Chains.{walk_more, walk_all}
+use Rattle.matrix.proofs.Meant.{at_means}
+use Rattle.product.specs.Meetings.{meeting_in, list_sum}
+use Rattle.product.proofs.Chains.{walk_more}
 use Rattle.product.proofs.meetings.Meetings.gather.Goals as goal
 
 pub loop-m-preserved : goal.loop-m-preserved
@@ -13,9 +14,9 @@ loop-m-preserved g c =
     let linked = c.requires.0 in
     let few = c.loop-m.invariant.0 in
     let less = linked.down m pos few in
-    let x = read_means a c.args.left.now (get_or self.left m 0) _ a.ring.zero (linked.left_within m pos few) c.index-left-self.is in
-    let y = read_means a c.args.right.now (get_or self.right m 0) _ a.ring.zero (linked.right_within m pos few) c.index-right-self.is in
-    (omega arith, walk_more a.ring (meanings a c.args.left.now) (meanings a c.args.right.now) self _ _ linked m pos few _ _ _ (c.add-total.ensures ∙ ap (a.ring.add _) (c.multiply.ensures ∙ ap₂ a.ring.mul x y)) c.loop-m.invariant.1)
-
-pub returns : goal.returns
-returns g c = let a = g.F.Arithmetic.figures in walk_all a.ring (meanings a c.args.left.now) (meanings a c.args.right.now) c.args.self.now c.loop-m.m (omega arith) _ _ c.loop-m.invariant.1
+    let pair = c.args.pair.now in
+    let fs = meanings a pair.first.figures.now in
+    let gs = meanings a pair.second.figures.now in
+    let x = at_means a pair.first.figures.now (meeting_in self.meetings m).left _ a.ring.zero (linked.left_within m pos few) in
+    let y = at_means a pair.second.figures.now (meeting_in self.meetings m).right _ a.ring.zero (linked.right_within m pos few) in
+    (omega arith, walk_more a.ring fs gs self _ _ linked m pos few (a.meaning c.loop-m.total) (a.meaning c.add-total.result) (list_sum a.ring fs gs self c.args.start) (c.add-total.ensures ∙ ap (a.ring.add _) (c.multiply.ensures ∙ ap₂ a.ring.mul x y)) c.loop-m.invariant.1)

@@ -10,14 +10,13 @@ returns-then-bits-ne0 c =
     let first = c.max-first.result in
     let is = c.max-first.ensures in
     let here : first / 64 ≡ group = omega arith in
-    let within = low_within (get_or touched group 0) first (c.requires.1 group) c.if-bits-ne0.true in
-    record {
-      after = omega arith;
-      gap = λ j low high. ⊎_elim
+    let within = low_within (get_or touched group 0) first (c.requires group) c.if-bits-ne0.true in (
+      omega arith,
+      λ j low high. ⊎_elim
           (λ (h : j < group * 64). c.loop-group.invariant j low h)
           (λ (h : group * 64 ≤ j). absent_low touched group first j (omega arith) here (omega arith) high)
-          (cases_lt j (group * 64));
-    }
+          (cases_lt j (group * 64)),
+    )
 
 pub loop-group-preserved : goal.loop-group-preserved
 loop-group-preserved c = λ j low high.
