@@ -1,11 +1,12 @@
 -- The last end of a book, and one more sheet after it.
-use Rattle.std.proofs.Common.{◌≡◌, ℕ, zero, suc, ◌+◌, ◌<◌, ◌≤◌, List, ◌++◌, length, take, drop, set, sym, refl, ap, ◌∙◌, inl, inr, ⊎_elim, arith}
+use Rattle.std.proofs.Common.{◌≡◌, ℕ, zero, suc, ◌+◌, ◌<◌, ◌≤◌, List, ◌++◌, length, take, drop, set, sym, refl, ap, ap₂, ◌∙◌, inl, inr, ⊎_elim, arith}
 use Rattle.std.proofs.lemmas.Bool.{cases_lt, cases_eq}
+use Rattle.std.proofs.lemmas.List.{drop-drop}
 use Rattle.arithmetic.specs.Semiring.{Figures}
 use Rattle.matrix.specs.Tables.{Table}
 use Rattle.matrix.proofs.Meant.{length-meanings}
 use Rattle.sheet.specs.Packed.{packed_length, packed_index}
-use Rattle.sheet.specs.Writing.{Appended}
+use Rattle.sheet.specs.Writing.{Written}
 use Rattle.sheet.proofs.Same.{index_long, figures_long_too}
 use Rattle.book.specs.Book.{Arrays, OneMore, order_of, sheets_of, capacity, last_end}
 use Rattle.sheet.specs.declared.refusal.Refusal.TheVariants.{Lengths, Full, Room}
@@ -24,16 +25,17 @@ end_within b headed = go (sheets_of b) refl
         let e : 2 + suc k ≡ 3 + k = omega arith in
         rw (some, e) last
 
-module _ {S : Type 0} (a : Figures S) (b : Arrays S) (t : Table a.F) (header' index' : List ℕ) (figures' : List S) where
-  pub one_more : Appended a (order_of b) t (last_end b) b.index b.figures index' figures' → header' ≡ set (set b.header 1 (sheets_of b + 1)) (3 + sheets_of b) (last_end b + packed_length a.ring (order_of b) t) → OneMore a b t (record { header = header'; index = index'; figures = figures' })
-  one_more p words =
+-- one more sheet, written at the start of what the sheets before it leave
+module _ {S : Type 0} (a : Figures S) (b : Arrays S) (t : Table a.F) (used free : List ℕ) (used' free' : List S) where
+  pub one_more : used ≡ take (last_end b) b.index → free ≡ drop (last_end b) b.index → used' ≡ take (last_end b) b.figures → free' ≡ drop (last_end b) b.figures → (header' ws : List ℕ) (fs : List S) → Written a (order_of b) t free free' ws fs → header' ≡ set (set b.header 1 (sheets_of b + 1)) (3 + sheets_of b) (last_end b + packed_length a.ring (order_of b) t) → OneMore a b t (record { header = header'; index = used ++ ws; figures = used' ++ fs })
+  one_more ue fe ue' fe' header' ws fs p words =
       let wide : length p.stored ≡ packed_length a.ring (order_of b) t = sym (length-meanings a p.stored) ∙ (ap length p.means ∙ figures_long_too a.ring (order_of b) t) in
       record {
         header = words;
-        index = p.index ∙ ap (λ k. take (last_end b) b.index ++ (packed_index a.ring (order_of b) t ++ drop (last_end b + k) b.index)) (index_long a.ring (order_of b) t);
+        index = ap₂ ◌++◌ ue (p.index ∙ ap (λ z. packed_index a.ring (order_of b) t ++ z) (ap₂ drop (index_long a.ring (order_of b) t) fe ∙ drop-drop (packed_length a.ring (order_of b) t) (last_end b) b.index));
         stored = p.stored;
         means = p.means;
-        figures = p.figures ∙ ap (λ k. take (last_end b) b.figures ++ (p.stored ++ drop (last_end b + k) b.figures)) wide;
+        figures = ap₂ ◌++◌ ue' (p.figures ∙ ap (λ z. p.stored ++ z) (ap₂ drop wide fe' ∙ drop-drop (packed_length a.ring (order_of b) t) (last_end b) b.figures));
       }
 
 -- what it means that a sheet fits, and that there is a number for it

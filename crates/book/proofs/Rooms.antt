@@ -1,11 +1,11 @@
--- A call that makes a new sheet: its room, and what it leaves.
-use Rattle.std.proofs.Common.{◌≡◌, ℕ, ◌+◌, ◌-◌, ◌≤◌, List, [], ◌∷◌, ◌++◌, set, IsErrAnd, Err, Result, sym, ap, ◌∙◌, subst, inl, arith}
+-- A call that makes a new sheet: what it has of the arrays, its room, and what it leaves.
+use Rattle.std.proofs.Common.{◌≡◌, ℕ, ◌+◌, ◌-◌, ◌≤◌, List, [], ◌∷◌, ◌++◌, length, take, drop, set, IsErrAnd, Err, Result, sym, ap, ap₂, ◌∙◌, subst, inl, arith}
+use Rattle.std.proofs.lemmas.List.{length-drop}
 use Rattle.arithmetic.specs.Semiring.{Figures}
 use Rattle.matrix.specs.Tables.{Table}
 use Rattle.sheet.specs.Packed.{packed_length}
-use Rattle.sheet.specs.Writing.{Appended}
+use Rattle.sheet.specs.Writing.{Written}
 use Rattle.sheet.specs.declared.refusal.Refusal.{Refusal}
-use Rattle.sheet.proofs.Laying.{starts_grow}
 use Rattle.book.specs.Book.{Arrays, SoundBook, OneMore, order_of, sheets_of, capacity, last_end}
 use Rattle.book.specs.Lines.{Line, Passes, Granted, SentBack, room}
 use Rattle.book.specs.Calls.{no_room}
@@ -13,27 +13,50 @@ use Rattle.book.proofs.Passing.{granted_both}
 use Rattle.book.proofs.Early.{late_by}
 use Rattle.book.proofs.Ends.{end_within, one_more, fits_from}
 
--- the lines ls come before the room, and do not apply; the new sheet's table is t, which the writing knows as t'
-module _ {S : Type 0} (a : Figures S) (b : Arrays S) (sound : SoundBook a b) (ls : List Line) (pass : Granted ls) (t t' : Table a.F) (same : t' ≡ t) (size : ℕ) (size_is : size ≡ packed_length a.ring (order_of b) t') where
-  is : size ≡ packed_length a.ring (order_of b) t
-  is = size_is ∙ ap (packed_length a.ring (order_of b)) same
+-- the arrays up to the last end, and from there on
+pub record Split {S : Type 0} (b : Arrays S) (used free : List ℕ) (used' free' : List S) : Type 0 where
+  pub used_is : used ≡ take (last_end b) b.index
+  pub free_is : free ≡ drop (last_end b) b.index
+  pub whole : b.index ≡ used ++ free
+  pub used_is' : used' ≡ take (last_end b) b.figures
+  pub free_is' : free' ≡ drop (last_end b) b.figures
+  pub whole' : b.figures ≡ used' ++ free'
 
-  -- there is no room
-  pub making_sent : {A : Type 0} (r : Result A Refusal) (why : Refusal) → IsErrAnd r (λ y. y ≡ why) → room size (capacity b - last_end b) why → (y : Refusal) × (r ≡ Err y) × SentBack (ls ++ (no_room a b t ∷ [])) y
-  making_sent r why came told = late_by ls (no_room a b t ∷ []) r why came pass (inl (told.0, told.1, (told.2.0 ∙ is, told.2.1)))
+-- the lines ls come before the room, and do not apply; the new sheet's order and table are n and t
+module _ {S : Type 0} (a : Figures S) (b : Arrays S) (sound : SoundBook a b) (used free : List ℕ) (used' free' : List S) (split : Split b used free used' free') (ls : List Line) (pass : Granted ls) (t : Table a.F) (n : ℕ) (t' : Table a.F) (order : n ≡ order_of b) (same : t' ≡ t) (size : ℕ) (size_is : size ≡ packed_length a.ring n t') where
+  is : size ≡ packed_length a.ring (order_of b) t
+  is = size_is ∙ ap₂ (packed_length a.ring) order same
+
+  pub free_long : length free ≡ capacity b - last_end b
+  free_long = ap length split.free_is ∙ length-drop (last_end b) b.index
+
+  pub free_paired : length free' ≡ length free
+  free_paired = ap length split.free_is' ∙ (length-drop (last_end b) b.figures ∙ (ap (λ k. k - last_end b) (sym sound.lengths) ∙ sym free_long))
+
+  pub free_small : length free ≤ 65536
+  free_small = let e = free_long in let s = sound.small in omega arith
+
+  -- there is no room: the arrays are as they were
+  pub making_sent : {A : Type 0} (r : Result A Refusal) (why : Refusal) → IsErrAnd r (λ y. y ≡ why) → room size (length free) why → (y : Refusal) × (r ≡ Err y) × (SentBack (ls ++ (no_room a b t ∷ [])) y × ◌≡◌ {A = Arrays S} (record { header = b.header; index = used ++ free; figures = used' ++ free' }) b)
+  making_sent r why came told =
+      let p = late_by ls (no_room a b t ∷ []) r why came pass (inl (told.0, told.1, (told.2.0 ∙ is, let few = told.2.1 in let long = free_long in omega arith))) in
+      (p.0, p.1, (p.2, λ i. record { header = b.header; index = sym split.whole i; figures = sym split.whole' i }))
 
   -- there is
-  module _ (roomy : Passes (room size (capacity b - last_end b))) where
-    pub making_fits : (last_end b + packed_length a.ring (order_of b) t' ≤ capacity b) × (last_end b + (order_of b + 1) ≤ capacity b) × (last_end b + size ≤ 65536)
-    making_fits =
+  module _ (roomy : Passes (room size (length free))) where
+    pub making_room : packed_length a.ring n t' ≤ length free
+    making_room = let fits = fits_from _ _ roomy in omega arith
+
+    pub making_end : last_end b + size ≤ 65536
+    making_end =
         let end = end_within b sound.header_rules in
         let fits = fits_from _ _ roomy in
-        let least = starts_grow a.ring (order_of b) t' 0 (order_of b) (omega arith) in
+        let long = free_long in
         let small = sound.small in
-        (omega arith, omega arith, omega arith)
+        omega arith
 
-    pub making_done : (header' index' : List ℕ) (figures' : List S) → Appended a (order_of b) t' (last_end b) b.index b.figures index' figures' → header' ≡ set (set b.header 1 (sheets_of b + 1)) (3 + sheets_of b) (last_end b + size) → Granted (ls ++ (no_room a b t ∷ [])) × OneMore a b t (record { header = header'; index = index'; figures = figures' })
-    making_done header' index' figures' wrote words = (
-      granted_both ls (no_room a b t ∷ []) pass ((λ why told. roomy why (told.0, told.1, (told.2.0 ∙ sym is, told.2.1))), tt),
-      one_more a b t header' index' figures' (subst (λ x. Appended a (order_of b) x (last_end b) b.index b.figures index' figures') same wrote) (words ∙ ap (λ k. set (set b.header 1 (sheets_of b + 1)) (3 + sheets_of b) (last_end b + k)) is),
+    pub making_done : (header' ws : List ℕ) (fs : List S) → Written a n t' free free' ws fs → header' ≡ set (set b.header 1 (sheets_of b + 1)) (3 + sheets_of b) (last_end b + size) → Granted (ls ++ (no_room a b t ∷ [])) × OneMore a b t (record { header = header'; index = used ++ ws; figures = used' ++ fs })
+    making_done header' ws fs wrote words = (
+      granted_both ls (no_room a b t ∷ []) pass ((λ why told. roomy why (told.0, told.1, (told.2.0 ∙ sym is, let few = told.2.1 in let long = free_long in omega arith))), tt),
+      one_more a b t used free used' free' split.used_is split.free_is split.used_is' split.free_is' header' ws fs (subst (λ x. Written a (order_of b) x free free' ws fs) same (subst (λ m. Written a m t' free free' ws fs) order wrote)) (words ∙ ap (λ k. set (set b.header 1 (sheets_of b + 1)) (3 + sheets_of b) (last_end b + k)) is),
     )

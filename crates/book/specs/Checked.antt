@@ -1,6 +1,8 @@
 -- What the checks that come before a call answer.
 use Rattle.std.specs.Prelude.{◌≡◌, ℕ, ◌+◌, ◌<◌, ◌≤◌, List, [], ◌∷◌, ◌++◌, length, Ok, Err, Result}
-use Rattle.arithmetic.specs.Semiring.{Figures}
+use Rattle.arithmetic.specs.Semiring.{Figures, meanings}
+use Rattle.sheet.specs.Packed.{Sound}
+use Rattle.sheet.specs.Writing.{part}
 use Rattle.sheet.specs.declared.refusal.Refusal.{Refusal}
 use Rattle.book.specs.Limits.{header_words, most_sheets, largest_order, largest_capacity}
 use Rattle.book.specs.Book.{Arrays, SoundBook, HeaderRule, order_of, sheets_of, capacity, start_of}
@@ -38,6 +40,13 @@ BookChecked a b (Err why) = SentBack (guard a b) why
 abbrev pub LineChecked : Line → Result (Unit {0}) Refusal → Type 0
 LineChecked l (Ok u) = Passes l
 LineChecked l (Err why) = l why
+
+-- a sound sheet of order n lies between two places of an index array and a figure array
+pub record Lying {S : Type 0} (a : Figures S) (n : ℕ) (ws : List ℕ) (fs : List S) (place : ℕ × ℕ) : Type 0 where
+  pub from : place.0 ≤ place.1
+  pub to : place.1 ≤ length ws
+  pub paired : length fs ≡ length ws
+  pub sound : Sound a.ring n (part ws place.0 place.1) (meanings a (part fs place.0 place.1))
 
 -- where sheet k of a sound book lies in the index array and the figure array
 pub record SheetLies {S : Type 0} (a : Figures S) (b : Arrays S) (k : ℕ) (place : ℕ × ℕ) : Type 0 where

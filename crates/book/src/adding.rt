@@ -3,9 +3,10 @@ ghost use Rattle.book.specs.Calls.{Outcome, Add};
 
 use crate::check::check_book;
 use crate::making::{check_full, check_room, enter_sheet};
+use crate::places::pair_at;
 use arithmetic::Arithmetic;
 use sheet::Refusal;
-use sum::{added_length_at, write_added};
+use sum::{added_length, write_added};
 
 // Checks the book, that it has both sheets, the first named first, and that there is a number for a new one. Answers
 // where each of the two begins and ends.
@@ -46,11 +47,14 @@ pub fn add<F: Arithmetic>(
 ) -> Result<usize, Refusal>
     ensures { Outcome F.Arithmetic.figures (record { header = header.old; index = index.old; figures = figures.old }) (Add first second) result (record { header = header.new; index = index.new; figures = figures.new }) }
 {
-    let ((a, a_end), (b, b_end)) = find_pair(header, index, figures, first, second)?;
+    let (one, two) = find_pair(header, index, figures, first, second)?;
     let order = header[0] as usize;
     let end = header[2 + header[1] as usize] as usize;
-    let size = added_length_at(order, index, figures, a, a_end, b, b_end);
-    check_room(size, index.len() - end)?;
-    write_added(order, index, figures, a, a_end, b, b_end, end);
+    let (used, free) = index.split_at_mut(end);
+    let (used_figures, free_figures) = figures.split_at_mut(end);
+    let pair = pair_at(order, used, used_figures, one, two);
+    let size = added_length(&pair);
+    check_room(size, free.len())?;
+    write_added(&pair, free, free_figures);
     Ok(enter_sheet(header, end + size))
 }

@@ -2,6 +2,7 @@ ghost use Rattle.book.specs.Calls.{Outcome, Flip};
 
 use crate::lookup::find_sheet;
 use crate::making::{check_full, check_room, enter_sheet};
+use crate::places::sheet_at;
 use arithmetic::Arithmetic;
 use sheet::Refusal;
 use transpose::write_flipped;
@@ -15,13 +16,16 @@ pub fn flip<F: Arithmetic>(
 ) -> Result<usize, Refusal>
     ensures { Outcome F.Arithmetic.figures (record { header = header.old; index = index.old; figures = figures.old }) (Flip sheet) result (record { header = header.new; index = index.new; figures = figures.new }) }
 {
-    let (from, to) = find_sheet(header, index, figures, sheet)?;
+    let place = find_sheet(header, index, figures, sheet)?;
     let sheets = header[1] as usize;
     check_full(sheets)?;
     let order = header[0] as usize;
     let end = header[2 + sheets] as usize;
-    let size = to - from;
-    check_room(size, index.len() - end)?;
-    write_flipped(order, index, figures, from, to, end);
+    let (used, free) = index.split_at_mut(end);
+    let (used_figures, free_figures) = figures.split_at_mut(end);
+    let sheet = sheet_at(order, used, used_figures, place);
+    let size = sheet.words.len();
+    check_room(size, free.len())?;
+    write_flipped(&sheet, free, free_figures);
     Ok(enter_sheet(header, end + size))
 }

@@ -10,6 +10,7 @@ mod lookup;
 mod making;
 mod multiplying;
 mod opening;
+mod places;
 mod single;
 mod striking;
 mod units;

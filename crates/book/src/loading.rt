@@ -5,7 +5,7 @@ ghost use Rattle.book.specs.Calls.{Outcome, Load};
 use crate::check::check_book;
 use crate::making::{check_full, check_room, enter_sheet};
 use arithmetic::Arithmetic;
-use sheet::{Refusal, check_entries, loaded_length, write_loaded};
+use sheet::{Entries, Refusal};
 
 // Whether the three lists of entries are equally long.
 fn check_lists<F: Arithmetic>(rows: &[u32], columns: &[u32], values: &[F]) -> Result<(), Refusal>
@@ -36,10 +36,17 @@ pub fn load<F: Arithmetic>(
     let order = header[0] as usize;
     let sheets = header[1] as usize;
     check_full(sheets)?;
-    check_entries(order, rows, columns)?;
-    let size = loaded_length(order, rows, columns, values);
+    let entries = Entries {
+        rows,
+        columns,
+        figures: values,
+    };
+    entries.check(order)?;
+    let size = entries.packed_length(order);
     let end = header[2 + sheets] as usize;
-    check_room(size, index.len() - end)?;
-    write_loaded(order, end, index, figures, rows, columns, values);
+    let (_, free) = index.split_at_mut(end);
+    let (_, free_figures) = figures.split_at_mut(end);
+    check_room(size, free.len())?;
+    entries.write(order, free, free_figures);
     Ok(enter_sheet(header, end + size))
 }

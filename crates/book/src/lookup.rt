@@ -2,8 +2,9 @@ ghost use Rattle.book.specs.Checked.{SheetFound};
 ghost use Rattle.book.specs.Lookups.{CellIs, RowIs, RowPartIs, Between};
 
 use crate::check::check_book;
+use crate::places::sheet_at;
 use arithmetic::Arithmetic;
-use sheet::{Refusal, cell_of};
+use sheet::Refusal;
 
 // Checks the book, and answers where this sheet begins and ends in the index array and the figure array.
 pub(crate) fn find_sheet<F: Arithmetic>(
@@ -32,7 +33,7 @@ pub fn cell<F: Arithmetic>(
 ) -> Result<F, Refusal>
     ensures { CellIs F.Arithmetic.figures (record { header = header.now; index = index.now; figures = figures.now }) sheet row column result }
 {
-    let (from, to) = find_sheet(header, index, figures, sheet)?;
+    let place = find_sheet(header, index, figures, sheet)?;
     let order = header[0] as usize;
     if row >= order {
         return Err(Refusal::Misplaced(0));
@@ -40,7 +41,7 @@ pub fn cell<F: Arithmetic>(
     if column >= order {
         return Err(Refusal::Misplaced(1));
     }
-    Ok(cell_of(order, &index[from..to], &figures[from..to], row, column))
+    Ok(sheet_at(order, index, figures, place).cell(row, column))
 }
 
 // Where the off-diagonal cells of a row of a sheet begin in the index array and the figure array, and one

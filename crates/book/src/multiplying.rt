@@ -2,8 +2,9 @@ ghost use Rattle.book.specs.Calls.{Outcome, Multiply};
 
 use crate::adding::find_pair;
 use crate::making::{check_room, enter_sheet};
+use crate::places::pair_at;
 use arithmetic::Arithmetic;
-use product::{Meetings, product_length_at, write_product};
+use product::{Meetings, product_length, write_product};
 use sheet::Refusal;
 
 // Adds the sheet of the product of two sheets, the first on the left. Answers its number.
@@ -16,22 +17,15 @@ pub fn multiply<F: Arithmetic>(
 ) -> Result<usize, Refusal>
     ensures { Outcome F.Arithmetic.figures (record { header = header.old; index = index.old; figures = figures.old }) (Multiply first second) result (record { header = header.new; index = index.new; figures = figures.new }) }
 {
-    let ((a, a_end), (b, b_end)) = find_pair(header, index, figures, first, second)?;
+    let (one, two) = find_pair(header, index, figures, first, second)?;
     let order = header[0] as usize;
     let end = header[2 + header[1] as usize] as usize;
+    let (used, free) = index.split_at_mut(end);
+    let (used_figures, free_figures) = figures.split_at_mut(end);
+    let pair = pair_at(order, used, used_figures, one, two);
     let mut meetings = Meetings::new();
-    let size = product_length_at(order, index, figures, a, a_end, b, b_end, &mut meetings);
-    check_room(size, index.len() - end)?;
-    write_product(
-        order,
-        index,
-        figures,
-        a,
-        a_end,
-        b,
-        b_end,
-        end,
-        &mut meetings,
-    );
+    let size = product_length(&pair, &mut meetings);
+    check_room(size, free.len())?;
+    write_product(&pair, free, free_figures, &mut meetings);
     Ok(enter_sheet(header, end + size))
 }

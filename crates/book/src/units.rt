@@ -18,7 +18,9 @@ pub fn unit<F: Arithmetic>(
     let sheets = header[1] as usize;
     check_full(sheets)?;
     let end = header[2 + sheets] as usize;
-    check_room(order + 1, index.len() - end)?;
-    write_unit(order, end, index, figures);
+    let (_, free) = index.split_at_mut(end);
+    let (_, free_figures) = figures.split_at_mut(end);
+    check_room(order + 1, free.len())?;
+    write_unit(order, free, free_figures);
     Ok(enter_sheet(header, end + (order + 1)))
 }

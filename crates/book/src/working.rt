@@ -1,6 +1,7 @@
 ghost use Rattle.book.specs.Workings.{WorkingFound, ColumnWorked, RowWorked};
 
 use crate::check::check_book;
+use crate::places::sheet_at;
 use arithmetic::Arithmetic;
 use sheet::Refusal;
 use workings::{work_columns, work_rows};
@@ -42,14 +43,9 @@ pub fn column_working<F: Arithmetic>(
 ) -> Result<usize, Refusal>
     ensures { ColumnWorked F.Arithmetic.figures (record { header = header.now; index = index.now; figures = figures.now }) sheet x.now out.old result out.new }
 {
-    let (from, to) = find_working(header, index, figures, sheet, x, out)?;
-    work_columns(
-        header[0] as usize,
-        &index[from..to],
-        &figures[from..to],
-        x,
-        out,
-    );
+    let place = find_working(header, index, figures, sheet, x, out)?;
+    let sheet = sheet_at(header[0] as usize, index, figures, place);
+    work_columns(&sheet, x, out);
     Ok(0)
 }
 
@@ -64,13 +60,8 @@ pub fn row_working<F: Arithmetic>(
 ) -> Result<usize, Refusal>
     ensures { RowWorked F.Arithmetic.figures (record { header = header.now; index = index.now; figures = figures.now }) sheet y.now out.old result out.new }
 {
-    let (from, to) = find_working(header, index, figures, sheet, y, out)?;
-    work_rows(
-        header[0] as usize,
-        &index[from..to],
-        &figures[from..to],
-        y,
-        out,
-    );
+    let place = find_working(header, index, figures, sheet, y, out)?;
+    let sheet = sheet_at(header[0] as usize, index, figures, place);
+    work_rows(&sheet, y, out);
     Ok(0)
 }

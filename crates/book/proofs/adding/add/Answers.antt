@@ -1,46 +1,45 @@
-use Rattle.std.proofs.Common.{[], ◌∷◌, sym, refl, ap₂, arith}
+use Rattle.std.proofs.Common.{[], ◌∷◌, refl, ap₂, arith}
 use Rattle.matrix.specs.Tables.{added}
+use Rattle.sum.specs.Merging.{summed}
 use Rattle.book.specs.Book.{Arrays, sheet_table}
 use Rattle.book.specs.Lines.{pair_guard}
 use Rattle.book.specs.Calls.{no_room}
 use Rattle.book.proofs.Early.{early_by}
 use Rattle.book.proofs.Ends.{end_within}
-use Rattle.book.proofs.Sheets.{place_sound, order_most}
-use Rattle.book.proofs.Pairs.{place_table, place_before, pair_granted}
-use Rattle.book.proofs.Rooms.{making_sent, making_fits, making_done}
+use Rattle.book.proofs.Sheets.{order_most}
+use Rattle.book.proofs.Pairs.{lying_used, used_table, pair_granted}
+use Rattle.book.proofs.Rooms.{Split, free_paired, free_small, making_sent, making_room, making_end, making_done}
 use Rattle.book.proofs.adding.add.Goals as goal
 
-pub returns-in_err-a : goal.returns-in_err-a
-returns-in_err-a g c =
+pub returns-in_err-one : goal.returns-in_err-one
+returns-in_err-one g c =
     let a = g.F.Arithmetic.figures in
     let b : Arrays g.row.F.Denot = record { header = c.args.header.now; index = c.args.index.now; figures = c.args.figures.now } in
     let i = c.args.first in
     let j = c.args.second in
-    let p = early_by (pair_guard a b i j) (no_room a b (added a.ring (sheet_table a b i) (sheet_table a b j)) ∷ []) c.from_residual.result c.in_err-a.field-0.0 c.from_residual.ensures.1 c.in_err-a.ensures in
+    let p = early_by (pair_guard a b i j) (no_room a b (added a.ring (sheet_table a b i) (sheet_table a b j)) ∷ []) c.from_residual.result c.in_err-one.field-0.0 c.from_residual.ensures.1 c.in_err-one.ensures in
     rw p.1 (p.2, refl)
 
-pub added_length_at-size-requires : goal.added_length_at-size-requires
-added_length_at-size-requires g c =
+pub split_at_mut-used-requires : goal.split_at_mut-used-requires
+split_at_mut-used-requires g c =
+    let b : Arrays g.row.F.Denot = record { header = c.args.header.now; index = c.args.index.now; figures = c.args.figures.now } in
+    end_within b c.in_ok-one.ensures.0.sound.header_rules
+
+pub pair_at-pair-requires : goal.pair_at-pair-requires
+pair_at-pair-requires g c =
     let a = g.F.Arithmetic.figures in
     let b : Arrays g.row.F.Denot = record { header = c.args.header.now; index = c.args.index.now; figures = c.args.figures.now } in
     let i = c.args.first in
     let j = c.args.second in
-    let found = c.in_ok-a.ensures in
+    let found = c.in_ok-one.ensures in
     let sound = found.0.sound in
-    let before = place_before a b i c.in_ok-a.a c.in_ok-a.a_end found.0 in
-    let before' = place_before a b j c.in_ok-a.b c.in_ok-a.b_end found.1 in
+    let used = c.split_at_mut-used.ensures in
+    let used' = c.split_at_mut-used_figures.ensures in
     record {
-      one = place_sound a b i c.in_ok-a.a c.in_ok-a.a_end found.0;
-      two = place_sound a b j c.in_ok-a.b c.in_ok-a.b_end found.1;
-      ends = (before.0, (found.0.within, (before'.0, found.1.within)));
-      sizes = (sym sound.lengths, (sound.small, order_most a b sound));
+      first = lying_used a b i c.in_ok-one.one found.0 _ _ used.front used'.front;
+      second = lying_used a b j c.in_ok-one.two found.1 _ _ used.front used'.front;
+      small = (order_most a b sound, omega (arith, sound.small, used.back_len));
     }
-
-pub overflow_sub-index : goal.overflow_sub-index
-overflow_sub-index g c =
-    let a = g.F.Arithmetic.figures in
-    let b : Arrays g.row.F.Denot = record { header = c.args.header.now; index = c.args.index.now; figures = c.args.figures.now } in
-    end_within b c.in_ok-a.ensures.0.sound.header_rules
 
 pub returns-in_err-check_room : goal.returns-in_err-check_room
 returns-in_err-check_room g c =
@@ -48,12 +47,17 @@ returns-in_err-check_room g c =
     let b : Arrays g.row.F.Denot = record { header = c.args.header.now; index = c.args.index.now; figures = c.args.figures.now } in
     let i = c.args.first in
     let j = c.args.second in
-    let found = c.in_ok-a.ensures in
+    let found = c.in_ok-one.ensures in
     let sound = found.0.sound in
-    let one = place_table a b i c.in_ok-a.a c.in_ok-a.a_end found.0 in
-    let two = place_table a b j c.in_ok-a.b c.in_ok-a.b_end found.1 in
-    let p = making_sent a b sound (pair_guard a b i j) (pair_granted a b i j sound found.0.there found.1.there found.2) (added a.ring (sheet_table a b i) (sheet_table a b j)) _ (ap₂ (λ x y. added a.ring x y) one two) c.added_length_at-size.result c.added_length_at-size.ensures c.from_residual-in_err-check_room.result c.in_err-check_room.field-0.0 c.from_residual-in_err-check_room.ensures.1 c.in_err-check_room.ensures in
-    rw p.1 (p.2, refl)
+    let used = c.split_at_mut-used.ensures in
+    let used' = c.split_at_mut-used_figures.ensures in
+    let pair = c.pair_at-pair.result in
+    let is = c.pair_at-pair.ensures in
+    let split : Split b _ _ _ _ = record { used_is = used.front; free_is = used.back; whole = used.value; used_is' = used'.front; free_is' = used'.back; whole' = used'.value } in
+    let one = used_table a b i c.in_ok-one.one found.0 _ _ used.front used'.front pair.first.words.now pair.first.figures.now is.first_words is.first_figures in
+    let two = used_table a b j c.in_ok-one.two found.1 _ _ used.front used'.front pair.second.words.now pair.second.figures.now is.second_words is.second_figures in
+    let p = making_sent a b sound _ _ _ _ split (pair_guard a b i j) (pair_granted a b i j sound found.0.there found.1.there found.2) (added a.ring (sheet_table a b i) (sheet_table a b j)) pair.first.order (summed a pair.first.words.now pair.first.figures.now pair.second.words.now pair.second.figures.now) is.order (ap₂ (added a.ring) one two) c.added_length-size.result c.added_length-size.ensures c.from_residual-in_err-check_room.result c.in_err-check_room.field-0.0 c.from_residual-in_err-check_room.ensures.1 c.in_err-check_room.ensures in
+    rw p.1 p.2
 
 pub write_added-requires : goal.write_added-requires
 write_added-requires g c =
@@ -61,19 +65,18 @@ write_added-requires g c =
     let b : Arrays g.row.F.Denot = record { header = c.args.header.now; index = c.args.index.now; figures = c.args.figures.now } in
     let i = c.args.first in
     let j = c.args.second in
-    let found = c.in_ok-a.ensures in
+    let found = c.in_ok-one.ensures in
     let sound = found.0.sound in
-    let one = place_table a b i c.in_ok-a.a c.in_ok-a.a_end found.0 in
-    let two = place_table a b j c.in_ok-a.b c.in_ok-a.b_end found.1 in
-    let before = place_before a b i c.in_ok-a.a c.in_ok-a.a_end found.0 in
-    let before' = place_before a b j c.in_ok-a.b c.in_ok-a.b_end found.1 in
-    let fits = making_fits a b sound (pair_guard a b i j) (pair_granted a b i j sound found.0.there found.1.there found.2) (added a.ring (sheet_table a b i) (sheet_table a b j)) _ (ap₂ (λ x y. added a.ring x y) one two) c.added_length_at-size.result c.added_length_at-size.ensures c.in_ok-check_room.ensures in
+    let used = c.split_at_mut-used.ensures in
+    let used' = c.split_at_mut-used_figures.ensures in
+    let pair = c.pair_at-pair.result in
+    let is = c.pair_at-pair.ensures in
+    let split : Split b _ _ _ _ = record { used_is = used.front; free_is = used.back; whole = used.value; used_is' = used'.front; free_is' = used'.back; whole' = used'.value } in
+    let one = used_table a b i c.in_ok-one.one found.0 _ _ used.front used'.front pair.first.words.now pair.first.figures.now is.first_words is.first_figures in
+    let two = used_table a b j c.in_ok-one.two found.1 _ _ used.front used'.front pair.second.words.now pair.second.figures.now is.second_words is.second_figures in
     record {
-      one = place_sound a b i c.in_ok-a.a c.in_ok-a.a_end found.0;
-      two = place_sound a b j c.in_ok-a.b c.in_ok-a.b_end found.1;
-      ends = (before.0, (before.1, (before'.0, before'.1)));
-      sizes = (sym sound.lengths, (sound.small, (order_most a b sound, fits.1)));
-      room = fits.0;
+      arrays = (free_paired a b sound _ _ _ _ split (pair_guard a b i j) (pair_granted a b i j sound found.0.there found.1.there found.2) (added a.ring (sheet_table a b i) (sheet_table a b j)) pair.first.order (summed a pair.first.words.now pair.first.figures.now pair.second.words.now pair.second.figures.now) is.order (ap₂ (added a.ring) one two) c.added_length-size.result c.added_length-size.ensures, free_small a b sound _ _ _ _ split (pair_guard a b i j) (pair_granted a b i j sound found.0.there found.1.there found.2) (added a.ring (sheet_table a b i) (sheet_table a b j)) pair.first.order (summed a pair.first.words.now pair.first.figures.now pair.second.words.now pair.second.figures.now) is.order (ap₂ (added a.ring) one two) c.added_length-size.result c.added_length-size.ensures);
+      room = making_room a b sound _ _ _ _ split (pair_guard a b i j) (pair_granted a b i j sound found.0.there found.1.there found.2) (added a.ring (sheet_table a b i) (sheet_table a b j)) pair.first.order (summed a pair.first.words.now pair.first.figures.now pair.second.words.now pair.second.figures.now) is.order (ap₂ (added a.ring) one two) c.added_length-size.result c.added_length-size.ensures c.in_ok-check_room.ensures;
     }
 
 pub overflow_add-end-2 : goal.overflow_add-end-2
@@ -82,12 +85,16 @@ overflow_add-end-2 g c =
     let b : Arrays g.row.F.Denot = record { header = c.args.header.now; index = c.args.index.now; figures = c.args.figures.now } in
     let i = c.args.first in
     let j = c.args.second in
-    let found = c.in_ok-a.ensures in
+    let found = c.in_ok-one.ensures in
     let sound = found.0.sound in
-    let one = place_table a b i c.in_ok-a.a c.in_ok-a.a_end found.0 in
-    let two = place_table a b j c.in_ok-a.b c.in_ok-a.b_end found.1 in
-    let fits = making_fits a b sound (pair_guard a b i j) (pair_granted a b i j sound found.0.there found.1.there found.2) (added a.ring (sheet_table a b i) (sheet_table a b j)) _ (ap₂ (λ x y. added a.ring x y) one two) c.added_length_at-size.result c.added_length_at-size.ensures c.in_ok-check_room.ensures in
-    omega (arith, fits.2)
+    let used = c.split_at_mut-used.ensures in
+    let used' = c.split_at_mut-used_figures.ensures in
+    let pair = c.pair_at-pair.result in
+    let is = c.pair_at-pair.ensures in
+    let split : Split b _ _ _ _ = record { used_is = used.front; free_is = used.back; whole = used.value; used_is' = used'.front; free_is' = used'.back; whole' = used'.value } in
+    let one = used_table a b i c.in_ok-one.one found.0 _ _ used.front used'.front pair.first.words.now pair.first.figures.now is.first_words is.first_figures in
+    let two = used_table a b j c.in_ok-one.two found.1 _ _ used.front used'.front pair.second.words.now pair.second.figures.now is.second_words is.second_figures in
+    omega (arith, making_end a b sound _ _ _ _ split (pair_guard a b i j) (pair_granted a b i j sound found.0.there found.1.there found.2) (added a.ring (sheet_table a b i) (sheet_table a b j)) pair.first.order (summed a pair.first.words.now pair.first.figures.now pair.second.words.now pair.second.figures.now) is.order (ap₂ (added a.ring) one two) c.added_length-size.result c.added_length-size.ensures c.in_ok-check_room.ensures)
 
 pub enter_sheet-requires : goal.enter_sheet-requires
 enter_sheet-requires g c =
@@ -95,12 +102,16 @@ enter_sheet-requires g c =
     let b : Arrays g.row.F.Denot = record { header = c.args.header.now; index = c.args.index.now; figures = c.args.figures.now } in
     let i = c.args.first in
     let j = c.args.second in
-    let found = c.in_ok-a.ensures in
+    let found = c.in_ok-one.ensures in
     let sound = found.0.sound in
-    let one = place_table a b i c.in_ok-a.a c.in_ok-a.a_end found.0 in
-    let two = place_table a b j c.in_ok-a.b c.in_ok-a.b_end found.1 in
-    let fits = making_fits a b sound (pair_guard a b i j) (pair_granted a b i j sound found.0.there found.1.there found.2) (added a.ring (sheet_table a b i) (sheet_table a b j)) _ (ap₂ (λ x y. added a.ring x y) one two) c.added_length_at-size.result c.added_length_at-size.ensures c.in_ok-check_room.ensures in
-    (sound.words, (found.2, fits.2))
+    let used = c.split_at_mut-used.ensures in
+    let used' = c.split_at_mut-used_figures.ensures in
+    let pair = c.pair_at-pair.result in
+    let is = c.pair_at-pair.ensures in
+    let split : Split b _ _ _ _ = record { used_is = used.front; free_is = used.back; whole = used.value; used_is' = used'.front; free_is' = used'.back; whole' = used'.value } in
+    let one = used_table a b i c.in_ok-one.one found.0 _ _ used.front used'.front pair.first.words.now pair.first.figures.now is.first_words is.first_figures in
+    let two = used_table a b j c.in_ok-one.two found.1 _ _ used.front used'.front pair.second.words.now pair.second.figures.now is.second_words is.second_figures in
+    (sound.words, (found.2, making_end a b sound _ _ _ _ split (pair_guard a b i j) (pair_granted a b i j sound found.0.there found.1.there found.2) (added a.ring (sheet_table a b i) (sheet_table a b j)) pair.first.order (summed a pair.first.words.now pair.first.figures.now pair.second.words.now pair.second.figures.now) is.order (ap₂ (added a.ring) one two) c.added_length-size.result c.added_length-size.ensures c.in_ok-check_room.ensures))
 
 pub returns : goal.returns
 returns g c =
@@ -108,9 +119,14 @@ returns g c =
     let b : Arrays g.row.F.Denot = record { header = c.args.header.now; index = c.args.index.now; figures = c.args.figures.now } in
     let i = c.args.first in
     let j = c.args.second in
-    let found = c.in_ok-a.ensures in
+    let found = c.in_ok-one.ensures in
     let sound = found.0.sound in
-    let one = place_table a b i c.in_ok-a.a c.in_ok-a.a_end found.0 in
-    let two = place_table a b j c.in_ok-a.b c.in_ok-a.b_end found.1 in
-    let done = making_done a b sound (pair_guard a b i j) (pair_granted a b i j sound found.0.there found.1.there found.2) (added a.ring (sheet_table a b i) (sheet_table a b j)) _ (ap₂ (λ x y. added a.ring x y) one two) c.added_length_at-size.result c.added_length_at-size.ensures c.in_ok-check_room.ensures c.enter_sheet.new.header c.write_added.new.index c.write_added.new.figures c.write_added.ensures c.enter_sheet.ensures.words in
+    let used = c.split_at_mut-used.ensures in
+    let used' = c.split_at_mut-used_figures.ensures in
+    let pair = c.pair_at-pair.result in
+    let is = c.pair_at-pair.ensures in
+    let split : Split b _ _ _ _ = record { used_is = used.front; free_is = used.back; whole = used.value; used_is' = used'.front; free_is' = used'.back; whole' = used'.value } in
+    let one = used_table a b i c.in_ok-one.one found.0 _ _ used.front used'.front pair.first.words.now pair.first.figures.now is.first_words is.first_figures in
+    let two = used_table a b j c.in_ok-one.two found.1 _ _ used.front used'.front pair.second.words.now pair.second.figures.now is.second_words is.second_figures in
+    let done = making_done a b sound _ _ _ _ split (pair_guard a b i j) (pair_granted a b i j sound found.0.there found.1.there found.2) (added a.ring (sheet_table a b i) (sheet_table a b j)) pair.first.order (summed a pair.first.words.now pair.first.figures.now pair.second.words.now pair.second.figures.now) is.order (ap₂ (added a.ring) one two) c.added_length-size.result c.added_length-size.ensures c.in_ok-check_room.ensures c.enter_sheet.new.header c.write_added.new.index c.write_added.new.figures c.write_added.ensures c.enter_sheet.ensures.words in
     (done.0, (c.enter_sheet.ensures.number, done.1))

@@ -1,29 +1,28 @@
-use Rattle.std.proofs.Common.{[], ◌∷◌, arith}
+use Rattle.std.proofs.Common.{[], ◌∷◌, ap₂, ◌∙◌, arith}
+use Rattle.arithmetic.specs.Semiring.{meanings}
+use Rattle.sheet.specs.Packed.{table}
 use Rattle.book.specs.Book.{Arrays}
 use Rattle.book.specs.Lines.{outside}
 use Rattle.book.specs.Checked.{sheet_guard}
 use Rattle.book.proofs.Early.{early_by}
 use Rattle.book.proofs.Looking.{cell_read}
-use Rattle.book.proofs.Sheets.{place_sound, place_long}
+use Rattle.book.proofs.Pairs.{lying}
 use Rattle.book.proofs.lookup.cell.Goals as goal
 
-pub returns-in_err-from : goal.returns-in_err-from
-returns-in_err-from g c =
+pub returns-in_err-place : goal.returns-in_err-place
+returns-in_err-place g c =
     let b : Arrays g.row.F.Denot = record { header = c.args.header.now; index = c.args.index.now; figures = c.args.figures.now } in
-    let p = early_by (sheet_guard g.F.Arithmetic.figures b c.args.sheet) (outside b c.args.row c.args.column ∷ []) c.from_residual.result c.in_err-from.field-0.0 c.from_residual.ensures.1 c.in_err-from.ensures in
+    let p = early_by (sheet_guard g.F.Arithmetic.figures b c.args.sheet) (outside b c.args.row c.args.column ∷ []) c.from_residual.result c.in_err-place.field-0.0 c.from_residual.ensures.1 c.in_err-place.ensures in
     rw p.1 p.2
 
-pub cell_of-requires : goal.cell_of-requires
-cell_of-requires g c =
-    let a = g.F.Arithmetic.figures in
+pub sheet_at-requires : goal.sheet_at-requires
+sheet_at-requires g c =
     let b : Arrays g.row.F.Denot = record { header = c.args.header.now; index = c.args.index.now; figures = c.args.figures.now } in
-    let at = c.in_ok-from.ensures in
-    let k = c.args.sheet in
-    let from = c.in_ok-from.from in
-    let to = c.in_ok-from.to in
-    record { sound = place_sound a b k from to at; sizes = (place_long a b k from to at, (omega arith, omega arith)) }
+    lying g.F.Arithmetic.figures b c.args.sheet c.in_ok-place.place c.in_ok-place.ensures
 
 pub returns : goal.returns
 returns g c =
+    let a = g.F.Arithmetic.figures in
     let b : Arrays g.row.F.Denot = record { header = c.args.header.now; index = c.args.index.now; figures = c.args.figures.now } in
-    cell_read g.F.Arithmetic.figures b c.args.sheet c.in_ok-from.from c.in_ok-from.to c.args.row c.args.column c.in_ok-from.ensures (omega arith) (omega arith) c.cell_of.result c.cell_of.ensures
+    let place = c.in_ok-place.place in
+    cell_read a b c.args.sheet place.0 place.1 c.args.row c.args.column c.in_ok-place.ensures (omega arith) (omega arith) c.cell.result (c.cell.ensures ∙ ap₂ (λ ws fs. table a.ring ws (meanings a fs) c.args.row c.args.column) c.sheet_at.ensures.words c.sheet_at.ensures.figures)
