@@ -11,6 +11,7 @@ pub struct Amount {
     value: u32,
 }
 
+// Made and read by name: `From` in both directions would read no plainer.
 impl Amount {
     pub fn new(value: u32) -> Self
         ensures { amount_figures.meaning result ≡ quantity value }

@@ -3,7 +3,7 @@ ghost use Rattle.book.specs.Calls.{Outcome, Add};
 
 use crate::check::check_book;
 use crate::making::{check_full, check_room, enter_sheet};
-use crate::places::pair_at;
+use crate::places::{pair_at, place_of};
 use arithmetic::Arithmetic;
 use sheet::Refusal;
 use sum::{added_length, write_added};
@@ -28,13 +28,7 @@ pub(crate) fn find_pair<F: Arithmetic>(
         return Err(Refusal::Sheet(second));
     }
     check_full(sheets)?;
-    Ok((
-        (header[2 + first] as usize, header[2 + (first + 1)] as usize),
-        (
-            header[2 + second] as usize,
-            header[2 + (second + 1)] as usize,
-        ),
-    ))
+    Ok((place_of(header, first), place_of(header, second)))
 }
 
 // Adds the sheet of the sum of two sheets, the first on the left. Answers its number.

@@ -3,6 +3,7 @@ ghost use Rattle.book.specs.Book.{HeaderRule};
 ghost use Rattle.book.specs.Checked.{LayoutChecked, HeaderChecked, BookChecked};
 
 use crate::limits::{HEADER_WORDS, LARGEST_CAPACITY, LARGEST_ORDER, MOST_SHEETS};
+use crate::places::place_of;
 use arithmetic::Arithmetic;
 use sheet::{Refusal, check_sheet};
 
@@ -33,16 +34,14 @@ fn word_keeps(header: &[u32], capacity: usize, w: usize) -> bool
 {
     let word = header[w] as usize;
     let sheets = header[1] as usize;
-    if w == 0 {
-        1 <= word && word <= LARGEST_ORDER
-    } else if w == 1 {
-        word <= MOST_SHEETS
-    } else if w == 2 {
-        word == 0
-    } else if w <= 2 + sheets {
-        header[w - 1] as usize + header[0] as usize + 1 <= word && word <= capacity
-    } else {
-        word == 0
+    match w {
+        0 => 1 <= word && word <= LARGEST_ORDER,
+        1 => word <= MOST_SHEETS,
+        2 => word == 0,
+        _ if w <= 2 + sheets => {
+            header[w - 1] as usize + header[0] as usize + 1 <= word && word <= capacity
+        }
+        _ => word == 0,
     }
 }
 
@@ -71,8 +70,7 @@ pub fn check_book<F: Arithmetic>(
     check_header(header, index, figures)?;
     let order = header[0] as usize;
     for k in 0..header[1] as usize {
-        let from = header[2 + k] as usize;
-        let to = header[2 + (k + 1)] as usize;
+        let (from, to) = place_of(header, k);
         check_sheet(order, from, &index[from..to], &figures[from..to])?;
     }
     Ok(())

@@ -1,4 +1,5 @@
-// The calls on a book that lies in three given arrays.
+// The calls on a book that lies in three given arrays. A call is lent the arrays one by one: a struct of them would hold
+// three `&mut`, and each contract would have to say of each that it is the same array still.
 #![tactic(auto)]
 
 mod adding;

@@ -2,7 +2,7 @@ ghost use Rattle.book.specs.Checked.{SheetFound};
 ghost use Rattle.book.specs.Lookups.{CellIs, RowIs, RowPartIs, Between};
 
 use crate::check::check_book;
-use crate::places::sheet_at;
+use crate::places::{place_of, sheet_at};
 use arithmetic::Arithmetic;
 use sheet::Refusal;
 
@@ -19,7 +19,7 @@ pub(crate) fn find_sheet<F: Arithmetic>(
     if sheet >= header[1] as usize {
         return Err(Refusal::Sheet(sheet));
     }
-    Ok((header[2 + sheet] as usize, header[2 + (sheet + 1)] as usize))
+    Ok(place_of(header, sheet))
 }
 
 // The figure of one cell of a sheet.
@@ -78,6 +78,7 @@ pub fn columns<'a, F: Arithmetic>(
     Ok(&index[from..to])
 }
 
+// One function for both arrays would not be shorter: it would be these two lines under a third name.
 // The figures of the off-diagonal cells of a row of a sheet, in the order of their columns.
 pub fn figures<'a, F: Arithmetic>(
     header: &'a [u32],

@@ -1,7 +1,7 @@
 ghost use Rattle.book.specs.Workings.{WorkingFound, ColumnWorked, RowWorked};
 
 use crate::check::check_book;
-use crate::places::sheet_at;
+use crate::places::{place_of, sheet_at};
 use arithmetic::Arithmetic;
 use sheet::Refusal;
 use workings::{work_columns, work_rows};
@@ -29,7 +29,7 @@ fn find_working<F: Arithmetic>(
     if sheet >= header[1] as usize {
         return Err(Refusal::Sheet(sheet));
     }
-    Ok((header[2 + sheet] as usize, header[2 + (sheet + 1)] as usize))
+    Ok(place_of(header, sheet))
 }
 
 // A sheet times the vector x: out(i) becomes the sum of cell(i, j) × x(j) over the columns j. Answers 0.
@@ -49,6 +49,8 @@ pub fn column_working<F: Arithmetic>(
     Ok(0)
 }
 
+// The two workings stay apart: one function for both would take the working as a closure, and its contract would name
+// what the closure ensures in place of a product.
 // The vector y times a sheet: out(j) becomes the sum of y(i) × cell(i, j) over the rows i. Answers 0.
 pub fn row_working<F: Arithmetic>(
     header: &[u32],

@@ -1,4 +1,3 @@
-pub mod Pairs
 pub mod Touched
 pub mod Chains
 pub mod Meets

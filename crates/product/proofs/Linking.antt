@@ -13,7 +13,7 @@ use Rattle.sheet.specs.Cursors.{Cursor}
 use Rattle.sheet.proofs.Cursors.{cursor_none, cursor_step, cursor_skip, cursor_gap, spot_figure, spot_within}
 use Rattle.product.specs.declared.meetings.Meetings.{Meetings}
 use Rattle.product.specs.Meetings.{meeting, pushed, cleared, Idle, Lists, next_stored_of, pair_product}
-use Rattle.product.proofs.Pairs.{first_sound, second_sound, first_paired, second_paired}
+use Rattle.sheet.proofs.Pairs.{first_sound, second_sound, first_paired, second_paired}
 use Rattle.product.proofs.Meets.{lists_same, lists_none, lists_one, lists_many, pushed_from, pushed_count}
 
 module _ {F : Type 0} (s : Semiring F) (n : ℕ) (ws : List ℕ) (fs : List F) (sound : Sound s n ws fs) (i : ℕ) (low : i < n) (from p : ℕ) (high : from ≤ n) (at : Cursor ws i from p) where

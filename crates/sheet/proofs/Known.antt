@@ -1,12 +1,14 @@
 -- A sheet of which it is only known that some proof of its soundness exists, as the type of a sheet says it, is sound: each
 -- rule can be told, and a position lies in one row.
-use Rattle.std.proofs.Common.{◌≡◌, ℕ, zero, suc, ◌+◌, ◌<◌, ◌≤◌, cond, ltb, List, length, get_or, ◌∙◌, subst, ⊎_elim, arith}
+use Rattle.std.proofs.Common.{◌≡◌, ℕ, zero, suc, ◌+◌, ◌<◌, ◌≤◌, cond, ltb, List, length, get_or, ◌∙◌, ⊎_elim, arith}
 use Rattle.std.proofs.Math.Logic.{∥∥₁_elim}
 use Rattle.std.proofs.Math.Nat.{ℕ_set}
 use Rattle.std.proofs.Math.Bridge.{le_prop}
 use Rattle.std.proofs.lemmas.Bool.{cases_lt, lt-ltb, le-ltb}
 use mathlib.Core.Bool.{Bool-set}
-use Rattle.arithmetic.specs.Semiring.{Semiring}
+use Rattle.arithmetic.specs.Semiring.{Semiring, meanings}
+use Rattle.arithmetic.specs.declared.Arithmetic.{Ghosts}
+use Rattle.sheet.specs.declared.sound.Sheet.{Sheet}
 use Rattle.sheet.specs.Packed.{Rising, Head, Cell, Sound}
 use Rattle.sheet.proofs.Found.{sound_rises}
 
@@ -53,12 +55,12 @@ module _ {F : Type 0} (s : Semiring F) (n : ℕ) (ws : List ℕ) (fs : List F) (
     spare = λ e. (s.tests_zero _).0 (∥∥₁_elim t (Bool-set _ _) (λ x. (s.tests_zero _).1 (((x.rules p low).head le).spare e)));
   }
 
-  pub sound_known : Sound s n ws fs
+  sound_known : Sound s n ws fs
   sound_known = record {
     room = ∥∥₁_elim t le_prop (λ x. x.room);
     rules = λ p low. record { head = known_head p low; cell = known_cell p low };
   }
 
--- the same of a sheet whose order is known by another name
-pub sound_known_as : {F : Type 0} (s : Semiring F) (n m : ℕ) (ws : List ℕ) (fs : List F) → m ≡ n → ∥ Sound s m ws fs ∥₁ → Sound s n ws fs
-sound_known_as s n m ws fs e t = subst (λ k. Sound s k ws fs) e (sound_known s m ws fs t)
+-- a sheet is sound, as its type says
+pub sheet_sound : {S : Type 0} {g : Ghosts S} (sheet : Sheet S g) → Sound g.figures.ring sheet.order sheet.words.now (meanings g.figures sheet.figures.now)
+sheet_sound {g = g} sheet = sound_known g.figures.ring sheet.order sheet.words.now (meanings g.figures sheet.figures.now) sheet.sound

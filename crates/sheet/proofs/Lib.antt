@@ -13,3 +13,4 @@ pub mod Loads
 pub mod Known
 pub mod Diagonals
 pub mod Cursors
+pub mod Pairs

@@ -38,6 +38,7 @@ impl<F: Arithmetic> Entries<'_, F> {
     pub fn check(&self, order: usize) -> Result<(), Refusal>
         ensures { EntriesChecked order self.now.rows.now self.now.columns.now result }
     {
+        // By their places: an entry is held against the one before it.
         for k in 0..self.rows.len() {
             if !self.is_placed(order, k) {
                 return Err(Refusal::Misplaced(k));
@@ -53,6 +54,7 @@ impl<F: Arithmetic> Entries<'_, F> {
         ensures { result ≡ packed_length F.Arithmetic.figures.ring order (loaded F.Arithmetic.figures.ring (entries F.Arithmetic.figures self.now.rows.now self.now.columns.now self.now.figures.now)) }
     {
         let mut length = order + 1;
+        // The three lists are read at one place: an iterator over all of them would be a zip of a zip.
         for k in 0..self.rows.len() {
             length += places(
                 self.rows[k] as usize,

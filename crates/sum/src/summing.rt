@@ -21,7 +21,8 @@ pub fn added_length<F: Arithmetic>(pair: &Pair<'_, F>) -> usize
     length
 }
 
-// Writes the packed form of the sum of two sheets.
+// Writes the packed form of the sum of two sheets. The product has the same two walks over cells of its own. A trait for
+// both was tried: the type of a ghost member cannot name the figures of the arithmetic that the trait is over.
 pub fn write_added<F: Arithmetic>(pair: &Pair<'_, F>, index: &mut [u32], figures: &mut [F])
     requires arrays { (length figures.old ≡ length index.old) × (length index.old ≤ 65536) }
     requires room { packed_length F.Arithmetic.figures.ring pair.now.first.order (pair_sum pair.now) ≤ length index.old }

@@ -6,7 +6,6 @@ use Rattle.arithmetic.specs.Semiring.{Semiring}
 use Rattle.matrix.specs.Tables.{flipped}
 use Rattle.sheet.specs.Packed.{Sound, stored, columns_below, row_columns, row_start, packed_length, table}
 use Rattle.sheet.proofs.Found.{sound_rises, row_past, columns_rise}
-use Rattle.sheet.proofs.Known.{sound_known}
 use Rattle.sheet.proofs.Columns.{columns_yes, columns_no}
 use Rattle.sheet.proofs.Unique.{cell_stored, none_stored}
 use Rattle.transpose.specs.Flipping.{hits}
@@ -66,8 +65,8 @@ eqb_swap : (i c : ℕ) → eqb i c ≡ eqb c i
 eqb_swap i c = ⊎_elim (λ (e : i ≡ c). eq-eqb i c e ∙ sym (eq-eqb c i (sym e))) (λ (ne : i ≡ c → ⊥). ne_eqb i c ne ∙ sym (ne_eqb c i (λ e. ne (sym e)))) (cases_eq i c)
 
 -- a column of a sheet
-pub column_past : {F : Type 0} (s : Semiring F) (n : ℕ) (ws : List ℕ) (fs : List F) → ∥ Sound s n ws fs ∥₁ → (k : ℕ) → k < length ws - (n + 1) → get_or (take (length ws - (n + 1)) (drop (n + 1) ws)) k 0 < n
-column_past s n ws fs t k low = rw (word_past ws (n + 1) k low) (((sound_known s n ws fs t).rules (n + 1 + k) (omega arith)).cell (omega arith)).column_below
+pub column_past : {F : Type 0} (s : Semiring F) (n : ℕ) (ws : List ℕ) (fs : List F) → Sound s n ws fs → (k : ℕ) → k < length ws - (n + 1) → get_or (take (length ws - (n + 1)) (drop (n + 1) ws)) k 0 < n
+column_past s n ws fs sound k low = rw (word_past ws (n + 1) k low) ((sound.rules (n + 1 + k) (omega arith)).cell (omega arith)).column_below
 
 module _ {F : Type 0} (s : Semiring F) (n : ℕ) (ws : List ℕ) (fs : List F) (sound : Sound s n ws fs) where
   -- a cell is stored in a sheet just where the flipped table stores it

@@ -55,6 +55,7 @@ fn scatter_row<F: Arithmetic>(sheet: &Sheet<'_, F>, i: usize, factor: F, out: &m
     }
 }
 
+// Row working is no column working of the flipped sheet: it keeps the order of its factors, and reads the sheet as it is.
 // y times the sheet: out(j) becomes the sum of y(i) × cell(i, j) over the rows i. The diagonal is written
 // first, and then the other cells are added row by row.
 pub fn work_rows<F: Arithmetic>(sheet: &Sheet<'_, F>, y: &[F], out: &mut [F])

@@ -1,5 +1,6 @@
 use Rattle.std.proofs.Common.{◌+◌, ◌-◌, length, get_or, take, drop, refl, ◌∙◌, arith, length-set}
 use Rattle.std.proofs.lemmas.List.{get_or-replicate}
+use Rattle.sheet.proofs.Known.{sheet_sound}
 use Rattle.transpose.proofs.Hits.{word_past, counted_more, hits_few, column_past}
 use Rattle.transpose.proofs.count_columns.Goals as goal
 
@@ -10,14 +11,14 @@ pub bounds-counts-column : goal.bounds-counts-column
 bounds-counts-column g c =
     let a = g.F.Arithmetic.figures in
     let sheet = c.args.sheet.now in
-    omega (arith, column_past a.ring sheet.order sheet.words.now _ sheet.sound c.loop-column.column-index (omega arith))
+    omega (arith, column_past a.ring sheet.order sheet.words.now _ (sheet_sound sheet) c.loop-column.column-index (omega arith))
 
 pub overflow_add-counts : goal.overflow_add-counts
 overflow_add-counts g c =
     let a = g.F.Arithmetic.figures in
     let sheet = c.args.sheet.now in
     let column = get_or (take (length sheet.words.now - (sheet.order + 1)) (drop (sheet.order + 1) sheet.words.now)) c.loop-column.column-index 0 in
-    let low = column_past a.ring sheet.order sheet.words.now _ sheet.sound c.loop-column.column-index (omega arith) in
+    let low = column_past a.ring sheet.order sheet.words.now _ (sheet_sound sheet) c.loop-column.column-index (omega arith) in
     let is = c.loop-column.invariant.1 column (omega arith) in
     let few = hits_few sheet.words.now column (sheet.order + 1) c.loop-column.column-index in
     omega arith
@@ -26,12 +27,12 @@ pub bounds-counts-column-in-loop-column : goal.bounds-counts-column-in-loop-colu
 bounds-counts-column-in-loop-column g c =
     let a = g.F.Arithmetic.figures in
     let sheet = c.args.sheet.now in
-    omega (arith, column_past a.ring sheet.order sheet.words.now _ sheet.sound c.loop-column.column-index (omega arith))
+    omega (arith, column_past a.ring sheet.order sheet.words.now _ (sheet_sound sheet) c.loop-column.column-index (omega arith))
 
 pub loop-column-preserved : goal.loop-column-preserved
 loop-column-preserved g c =
     let a = g.F.Arithmetic.figures in
     let sheet = c.args.sheet.now in
-    let low = column_past a.ring sheet.order sheet.words.now _ sheet.sound c.loop-column.column-index (omega arith) in
+    let low = column_past a.ring sheet.order sheet.words.now _ (sheet_sound sheet) c.loop-column.column-index (omega arith) in
     let counts = c.loop-column.invariant in
     (length-set c.loop-column.counts _ _ ∙ counts.0, counted_more sheet.words.now (sheet.order + 1) c.loop-column.column-index _ (word_past sheet.words.now (sheet.order + 1) c.loop-column.column-index (omega arith)) (omega arith) c.loop-column.counts counts.0 counts.1)

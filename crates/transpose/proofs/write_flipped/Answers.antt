@@ -2,7 +2,7 @@ use Rattle.std.proofs.Common.{◌≡◌, ◌+◌, ◌≤◌, get_or, refl, arith
 use Rattle.arithmetic.specs.Semiring.{meanings}
 use Rattle.matrix.proofs.Meant.{at_means}
 use Rattle.sheet.proofs.Found.{sound_rises}
-use Rattle.sheet.proofs.Known.{sound_known}
+use Rattle.sheet.proofs.Known.{sheet_sound}
 use Rattle.transpose.proofs.Hits.{hits_all}
 use Rattle.transpose.proofs.Walks.{walking_none, walking_cell, walking_done, column_low, place_free}
 use Rattle.transpose.proofs.write_flipped.Goals as goal
@@ -11,14 +11,14 @@ pub write_head-requires-clause-counts : goal.write_head-requires-clause-counts
 write_head-requires-clause-counts g c =
     let a = g.F.Arithmetic.figures in
     let sheet = c.args.sheet.now in
-    let sound = sound_known a.ring sheet.order sheet.words.now (meanings a sheet.figures.now) sheet.sound in
+    let sound = sheet_sound sheet in
     λ k low. rw (c.count_columns-next.ensures k (omega arith)) (hits_all a.ring sheet.order sheet.words.now (meanings a sheet.figures.now) sound k)
 
 pub loop-row-init : goal.loop-row-init
 loop-row-init g c =
     let a = g.F.Arithmetic.figures in
     let sheet = c.args.sheet.now in
-    let sound = sound_known a.ring sheet.order sheet.words.now (meanings a sheet.figures.now) sheet.sound in
+    let sound = sheet_sound sheet in
     let head = c.write_head.ensures in
     walking_none record { sound = sound; small = omega arith; room = omega arith; even = omega arith } c.write_head.new.index c.write_head.new.figures c.write_head.new.next head.head (omega arith) head.starts
 

@@ -1,7 +1,6 @@
 use Rattle.std.proofs.Common.{arith}
-use Rattle.arithmetic.specs.Semiring.{meanings}
 use Rattle.matrix.proofs.Meant.{at_means}
-use Rattle.sheet.proofs.Known.{sound_known}
+use Rattle.sheet.proofs.Known.{sheet_sound}
 use Rattle.transpose.proofs.Heads.{heading_none, heading_more, heading_all}
 use Rattle.transpose.proofs.write_head.Goals as goal
 
@@ -9,7 +8,7 @@ pub loop-row-init : goal.loop-row-init
 loop-row-init g c =
     let a = g.F.Arithmetic.figures in
     let sheet = c.args.sheet.now in
-    let sound = sound_known a.ring sheet.order sheet.words.now (meanings a sheet.figures.now) sheet.sound in
+    let sound = sheet_sound sheet in
     heading_none record { sound = sound; small = omega arith; room = omega arith; even = omega arith } c.args.next.now c.requires.counts
 
 pub loop-row-preserved : goal.loop-row-preserved

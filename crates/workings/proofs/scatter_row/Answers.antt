@@ -1,7 +1,7 @@
 use Rattle.std.proofs.Common.{◌≤◌, length, get_or, ap, ◌∙◌, ap₂, arith}
 use Rattle.arithmetic.specs.Semiring.{meanings}
 use Rattle.matrix.proofs.Meant.{read_means, at_means, meanings_set, length-meanings}
-use Rattle.sheet.proofs.Known.{sound_known}
+use Rattle.sheet.proofs.Known.{sheet_sound}
 use Rattle.workings.proofs.Scatters.{scatter_none, scatter_more, scatter_all}
 use Rattle.workings.proofs.scatter_row.Goals as goal
 
@@ -9,14 +9,14 @@ pub loop-p-init : goal.loop-p-init
 loop-p-init g c =
     let a = g.F.Arithmetic.figures in
     let sheet = c.args.sheet.now in
-    let sound = sound_known a.ring sheet.order sheet.words.now (meanings a sheet.figures.now) sheet.sound in
+    let sound = sheet_sound sheet in
     scatter_none _ _ _ _ sound c.args.i (omega arith) _ _
 
 pub loop-p-preserved : goal.loop-p-preserved
 loop-p-preserved g c =
     let a = g.F.Arithmetic.figures in
     let sheet = c.args.sheet.now in
-    let sound = sound_known a.ring sheet.order sheet.words.now (meanings a sheet.figures.now) sheet.sound in
+    let sound = sheet_sound sheet in
     let w = c.loop-p.invariant in
     let column = w.columns c.loop-p.p (omega arith) (omega arith) in
     let room : sheet.order ≤ length (meanings a c.loop-p.out) = simp length-meanings (omega arith) in
@@ -29,5 +29,5 @@ pub returns : goal.returns
 returns g c =
     let a = g.F.Arithmetic.figures in
     let sheet = c.args.sheet.now in
-    let sound = sound_known a.ring sheet.order sheet.words.now (meanings a sheet.figures.now) sheet.sound in
+    let sound = sheet_sound sheet in
     scatter_all _ _ _ _ sound c.args.i (omega arith) _ _ _ c.loop-p.p (omega arith) c.loop-p.invariant

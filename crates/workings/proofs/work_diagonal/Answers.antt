@@ -2,14 +2,14 @@ use Rattle.std.proofs.Common.{◌<◌, length, ◌∙◌, ap₂, arith}
 use Rattle.std.proofs.lemmas.List.Edits.{fill_by_more}
 use Rattle.arithmetic.specs.Semiring.{meanings}
 use Rattle.matrix.proofs.Meant.{read_means, at_means, meanings_set, length-meanings}
-use Rattle.sheet.proofs.Known.{sound_known}
+use Rattle.sheet.proofs.Known.{sheet_sound}
 use Rattle.workings.proofs.work_diagonal.Goals as goal
 
 pub loop-j-preserved : goal.loop-j-preserved
 loop-j-preserved g c =
     let a = g.F.Arithmetic.figures in
     let sheet = c.args.sheet.now in
-    let sound = sound_known a.ring sheet.order sheet.words.now (meanings a sheet.figures.now) sheet.sound in
+    let sound = sheet_sound sheet in
     let room = sound.room in
     let out = c.loop-j.out in
     let j = c.loop-j.j in

@@ -13,29 +13,19 @@ returns-in_err-check_book g c =
     let p = early g.F.Arithmetic.figures b (missing b (c.args.first ∷ (c.args.second ∷ [])) ∷ (full (sheets_of b) ∷ [])) c.from_residual.result c.in_err-check_book.field-0.0 c.from_residual.ensures.1 c.in_err-check_book.ensures in
     rw p.1 p.2
 
-pub bounds-header-first : goal.bounds-header-first
-bounds-header-first g c =
+pub place_of-requires : goal.place_of-requires
+place_of-requires g c =
     let sound = c.in_ok-check_book.ensures in
-    omega (arith, few _ _ sound.header_rules, sound.words)
+    (sound.words, omega (arith, few _ _ sound.header_rules))
 
-pub bounds-header-first-2 : goal.bounds-header-first-2
-bounds-header-first-2 g c =
+pub place_of-requires-2 : goal.place_of-requires-2
+place_of-requires-2 g c =
     let sound = c.in_ok-check_book.ensures in
-    omega (arith, few _ _ sound.header_rules, sound.words)
-
-pub bounds-header-second : goal.bounds-header-second
-bounds-header-second g c =
-    let sound = c.in_ok-check_book.ensures in
-    omega (arith, few _ _ sound.header_rules, sound.words)
-
-pub bounds-header-second-2 : goal.bounds-header-second-2
-bounds-header-second-2 g c =
-    let sound = c.in_ok-check_book.ensures in
-    omega (arith, few _ _ sound.header_rules, sound.words)
+    (sound.words, omega (arith, few _ _ sound.header_rules))
 
 pub returns : goal.returns
 returns g c =
     let a = g.F.Arithmetic.figures in
     let b : Arrays g.row.F.Denot = record { header = c.args.header.now; index = c.args.index.now; figures = c.args.figures.now } in
     let sound = c.in_ok-check_book.ensures in
-    (sheet_lies a b sound c.args.first (omega arith), sheet_lies a b sound c.args.second (omega arith), few_from (sheets_of b) (few _ _ sound.header_rules) c.in_ok-check_full.ensures)
+    (rw c.place_of.ensures (sheet_lies a b sound c.args.first (omega arith)), rw c.place_of-2.ensures (sheet_lies a b sound c.args.second (omega arith)), few_from (sheets_of b) (few _ _ sound.header_rules) c.in_ok-check_full.ensures)

@@ -2,7 +2,7 @@ use Rattle.std.proofs.Common.{◌≤◌, [], ◌∷◌, ◌++◌, length, sym, r
 use Rattle.arithmetic.specs.Semiring.{meanings}
 use Rattle.matrix.specs.Tables.{flipped}
 use Rattle.sheet.specs.Packed.{table}
-use Rattle.sheet.proofs.Known.{sound_known}
+use Rattle.sheet.proofs.Known.{sheet_sound}
 use Rattle.transpose.proofs.Hits.{flipped_length}
 use Rattle.book.specs.Book.{Arrays, sheets_of, sheet_table}
 use Rattle.book.specs.Lines.{guard, missing, full}
@@ -59,7 +59,7 @@ returns-in_err-check_room g c =
     let is = c.sheet_at-sheet.ensures in
     let split : Split b _ _ _ _ = record { used_is = used.front; free_is = used.back; whole = used.value; used_is' = used'.front; free_is' = used'.back; whole' = used'.value } in
     let same = ap flipped (used_table a b k c.in_ok-place.place found _ _ used.front used'.front sheet.words.now sheet.figures.now is.words is.figures) in
-    let size = sym (flipped_length a.ring sheet.order sheet.words.now (meanings a sheet.figures.now) (sound_known a.ring sheet.order sheet.words.now (meanings a sheet.figures.now) sheet.sound)) in
+    let size = sym (flipped_length a.ring sheet.order sheet.words.now (meanings a sheet.figures.now) (sheet_sound sheet)) in
     let p = making_sent a b sound _ _ _ _ split (guard a b ++ (missing b (k ∷ []) ∷ (full (sheets_of b) ∷ []))) (flip_granted a b k sound found.there few) (flipped (sheet_table a b k)) sheet.order (flipped (table a.ring sheet.words.now (meanings a sheet.figures.now))) is.order same (length sheet.words.now) size c.from_residual-in_err-check_room.result c.in_err-check_room.field-0.0 c.from_residual-in_err-check_room.ensures.1 c.in_err-check_room.ensures in
     rw p.1 p.2
 
@@ -77,7 +77,7 @@ write_flipped-requires g c =
     let is = c.sheet_at-sheet.ensures in
     let split : Split b _ _ _ _ = record { used_is = used.front; free_is = used.back; whole = used.value; used_is' = used'.front; free_is' = used'.back; whole' = used'.value } in
     let same = ap flipped (used_table a b k c.in_ok-place.place found _ _ used.front used'.front sheet.words.now sheet.figures.now is.words is.figures) in
-    let size = sym (flipped_length a.ring sheet.order sheet.words.now (meanings a sheet.figures.now) (sound_known a.ring sheet.order sheet.words.now (meanings a sheet.figures.now) sheet.sound)) in
+    let size = sym (flipped_length a.ring sheet.order sheet.words.now (meanings a sheet.figures.now) (sheet_sound sheet)) in
     let small = free_small a b sound _ _ _ _ split (guard a b ++ (missing b (k ∷ []) ∷ (full (sheets_of b) ∷ []))) (flip_granted a b k sound found.there few) (flipped (sheet_table a b k)) sheet.order (flipped (table a.ring sheet.words.now (meanings a sheet.figures.now))) is.order same (length sheet.words.now) size in
     let fits : length sheet.words.now ≤ _ = rw size (making_room a b sound _ _ _ _ split (guard a b ++ (missing b (k ∷ []) ∷ (full (sheets_of b) ∷ []))) (flip_granted a b k sound found.there few) (flipped (sheet_table a b k)) sheet.order (flipped (table a.ring sheet.words.now (meanings a sheet.figures.now))) is.order same (length sheet.words.now) size c.in_ok-check_room.ensures) in
     let few_rows : sheet.order ≤ 1024 = rw is.order (order_most a b sound) in
@@ -97,7 +97,7 @@ overflow_add-end-2 g c =
     let is = c.sheet_at-sheet.ensures in
     let split : Split b _ _ _ _ = record { used_is = used.front; free_is = used.back; whole = used.value; used_is' = used'.front; free_is' = used'.back; whole' = used'.value } in
     let same = ap flipped (used_table a b k c.in_ok-place.place found _ _ used.front used'.front sheet.words.now sheet.figures.now is.words is.figures) in
-    let size = sym (flipped_length a.ring sheet.order sheet.words.now (meanings a sheet.figures.now) (sound_known a.ring sheet.order sheet.words.now (meanings a sheet.figures.now) sheet.sound)) in
+    let size = sym (flipped_length a.ring sheet.order sheet.words.now (meanings a sheet.figures.now) (sheet_sound sheet)) in
     omega (arith, making_end a b sound _ _ _ _ split (guard a b ++ (missing b (k ∷ []) ∷ (full (sheets_of b) ∷ []))) (flip_granted a b k sound found.there few) (flipped (sheet_table a b k)) sheet.order (flipped (table a.ring sheet.words.now (meanings a sheet.figures.now))) is.order same (length sheet.words.now) size c.in_ok-check_room.ensures)
 
 pub enter_sheet-requires : goal.enter_sheet-requires
@@ -114,7 +114,7 @@ enter_sheet-requires g c =
     let is = c.sheet_at-sheet.ensures in
     let split : Split b _ _ _ _ = record { used_is = used.front; free_is = used.back; whole = used.value; used_is' = used'.front; free_is' = used'.back; whole' = used'.value } in
     let same = ap flipped (used_table a b k c.in_ok-place.place found _ _ used.front used'.front sheet.words.now sheet.figures.now is.words is.figures) in
-    let size = sym (flipped_length a.ring sheet.order sheet.words.now (meanings a sheet.figures.now) (sound_known a.ring sheet.order sheet.words.now (meanings a sheet.figures.now) sheet.sound)) in
+    let size = sym (flipped_length a.ring sheet.order sheet.words.now (meanings a sheet.figures.now) (sheet_sound sheet)) in
     (sound.words, (few, making_end a b sound _ _ _ _ split (guard a b ++ (missing b (k ∷ []) ∷ (full (sheets_of b) ∷ []))) (flip_granted a b k sound found.there few) (flipped (sheet_table a b k)) sheet.order (flipped (table a.ring sheet.words.now (meanings a sheet.figures.now))) is.order same (length sheet.words.now) size c.in_ok-check_room.ensures))
 
 pub returns : goal.returns
@@ -131,6 +131,6 @@ returns g c =
     let is = c.sheet_at-sheet.ensures in
     let split : Split b _ _ _ _ = record { used_is = used.front; free_is = used.back; whole = used.value; used_is' = used'.front; free_is' = used'.back; whole' = used'.value } in
     let same = ap flipped (used_table a b k c.in_ok-place.place found _ _ used.front used'.front sheet.words.now sheet.figures.now is.words is.figures) in
-    let size = sym (flipped_length a.ring sheet.order sheet.words.now (meanings a sheet.figures.now) (sound_known a.ring sheet.order sheet.words.now (meanings a sheet.figures.now) sheet.sound)) in
+    let size = sym (flipped_length a.ring sheet.order sheet.words.now (meanings a sheet.figures.now) (sheet_sound sheet)) in
     let done = making_done a b sound _ _ _ _ split (guard a b ++ (missing b (k ∷ []) ∷ (full (sheets_of b) ∷ []))) (flip_granted a b k sound found.there few) (flipped (sheet_table a b k)) sheet.order (flipped (table a.ring sheet.words.now (meanings a sheet.figures.now))) is.order same (length sheet.words.now) size c.in_ok-check_room.ensures c.enter_sheet.new.header c.write_flipped.new.index c.write_flipped.new.figures c.write_flipped.ensures c.enter_sheet.ensures.words in
     (done.0, (c.enter_sheet.ensures.number, done.1))

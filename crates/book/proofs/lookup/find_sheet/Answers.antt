@@ -12,17 +12,12 @@ returns-in_err-check_book g c =
     let p = early g.F.Arithmetic.figures b (missing b (c.args.sheet ∷ []) ∷ []) c.from_residual.result c.in_err-check_book.field-0.0 c.from_residual.ensures.1 c.in_err-check_book.ensures in
     rw p.1 p.2
 
-pub bounds-header-sheet : goal.bounds-header-sheet
-bounds-header-sheet g c =
+pub place_of-requires : goal.place_of-requires
+place_of-requires g c =
     let sound = c.in_ok-check_book.ensures in
-    omega (arith, few _ _ sound.header_rules, sound.words)
-
-pub bounds-header-sheet-2 : goal.bounds-header-sheet-2
-bounds-header-sheet-2 g c =
-    let sound = c.in_ok-check_book.ensures in
-    omega (arith, few _ _ sound.header_rules, sound.words)
+    (sound.words, omega (arith, few _ _ sound.header_rules))
 
 pub returns : goal.returns
 returns g c =
     let b : Arrays g.row.F.Denot = record { header = c.args.header.now; index = c.args.index.now; figures = c.args.figures.now } in
-    sheet_lies g.F.Arithmetic.figures b c.in_ok-check_book.ensures c.args.sheet (omega arith)
+    rw c.place_of.ensures (sheet_lies g.F.Arithmetic.figures b c.in_ok-check_book.ensures c.args.sheet (omega arith))

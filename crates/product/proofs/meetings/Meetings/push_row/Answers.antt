@@ -2,7 +2,7 @@ use Rattle.std.proofs.Common.{◌+◌, ◌-◌, get_or, ap, ◌∙◌, arith}
 use Rattle.sheet.proofs.Found.{row_within, cell_at}
 use Rattle.product.specs.declared.meetings.Meetings.{Meetings}
 use Rattle.product.specs.Meetings.{pushed}
-use Rattle.product.proofs.Pairs.{second_sound}
+use Rattle.sheet.proofs.Pairs.{second_sound}
 use Rattle.product.proofs.Chains.{pushed_more}
 use Rattle.product.proofs.meetings.Meetings.push_row.Goals as goal
 

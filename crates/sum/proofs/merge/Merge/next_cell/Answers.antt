@@ -1,7 +1,7 @@
 use Rattle.std.proofs.Common.{◌+◌, ◌<◌, ◌≤◌, cond, eqb, sym, refl, ap₂, ◌∙◌, arith}
 use Rattle.arithmetic.specs.Semiring.{meanings}
 use Rattle.sheet.proofs.Found.{row_within}
-use Rattle.sheet.proofs.Known.{sound_known, sound_known_as}
+use Rattle.sheet.proofs.Pairs.{first_sound, second_sound}
 use Rattle.sum.proofs.Merges.{some_next, none_next, next_from, merging_gap, merging_row, spots_within, merged_here, merging_next}
 use Rattle.sum.proofs.merge.Merge.next_cell.Goals as goal
 
@@ -12,10 +12,8 @@ invariant_of-self g c =
     let pair = m.pair.now in
     let fs = meanings a pair.first.figures.now in
     let gs = meanings a pair.second.figures.now in
-    let one = sound_known a.ring pair.first.order pair.first.words.now fs pair.first.sound in
-    let two = sound_known_as a.ring pair.first.order pair.second.order pair.second.words.now gs pair.one_order pair.second.sound in
     let over = none_next _ pair.first.order (sym c.in_default.is ∙ c.next_column.ensures) in
-    record { merging = merging_row a.ring pair.first.order pair.first.words.now fs pair.second.words.now gs one two m.row m.from m.p m.q c.requires m.merging over }
+    record { merging = merging_row a.ring pair.first.order pair.first.words.now fs pair.second.words.now gs (first_sound pair) (second_sound pair) m.row m.from m.p m.q c.requires m.merging over }
 
 pub returns-in_default-clause-next : goal.returns-in_default-clause-next
 returns-in_default-clause-next g c =
@@ -24,10 +22,8 @@ returns-in_default-clause-next g c =
     let pair = m.pair.now in
     let fs = meanings a pair.first.figures.now in
     let gs = meanings a pair.second.figures.now in
-    let one = sound_known a.ring pair.first.order pair.first.words.now fs pair.first.sound in
-    let two = sound_known_as a.ring pair.first.order pair.second.order pair.second.words.now gs pair.one_order pair.second.sound in
     let over = none_next _ pair.first.order (sym c.in_default.is ∙ c.next_column.ensures) in
-    ((λ j from to. merging_gap a.ring pair.first.order pair.first.words.now fs pair.second.words.now gs one two m.row m.from m.p m.q c.requires m.merging j from (omega arith)), refl, refl)
+    ((λ j from to. merging_gap a.ring pair.first.order pair.first.words.now fs pair.second.words.now gs (first_sound pair) (second_sound pair) m.row m.from m.p m.q c.requires m.merging j from (omega arith)), refl, refl)
 
 pub figure-requires : goal.figure-requires
 figure-requires g c =
@@ -36,10 +32,8 @@ figure-requires g c =
     let pair = m.pair.now in
     let fs = meanings a pair.first.figures.now in
     let gs = meanings a pair.second.figures.now in
-    let one = sound_known a.ring pair.first.order pair.first.words.now fs pair.first.sound in
-    let two = sound_known_as a.ring pair.first.order pair.second.order pair.second.words.now gs pair.one_order pair.second.sound in
     let next = some_next _ pair.first.order c.in-Some.column (sym c.in-Some.is ∙ c.next_column.ensures) in
-    let within = spots_within a.ring pair.first.order pair.first.words.now fs pair.second.words.now gs one two m.row m.from m.p m.q c.requires m.merging c.in-Some.column next.0 (rw next.0 next.1) c.spot-x.result c.spot-y.result c.spot-x.ensures (rw pair.one_order at c.spot-y.ensures) (cond (eqb c.spot-x.result m.p) (m.p + 1) m.p) (cond (eqb c.spot-y.result m.q) (m.q + 1) m.q) refl refl in
+    let within = spots_within a.ring pair.first.order pair.first.words.now fs pair.second.words.now gs (first_sound pair) (second_sound pair) m.row m.from m.p m.q c.requires m.merging c.in-Some.column next.0 (rw next.0 next.1) c.spot-x.result c.spot-y.result c.spot-x.ensures (rw pair.one_order at c.spot-y.ensures) (cond (eqb c.spot-x.result m.p) (m.p + 1) m.p) (cond (eqb c.spot-y.result m.q) (m.q + 1) m.q) refl refl in
     within.0
 
 pub figure-requires-2 : goal.figure-requires-2
@@ -49,10 +43,8 @@ figure-requires-2 g c =
     let pair = m.pair.now in
     let fs = meanings a pair.first.figures.now in
     let gs = meanings a pair.second.figures.now in
-    let one = sound_known a.ring pair.first.order pair.first.words.now fs pair.first.sound in
-    let two = sound_known_as a.ring pair.first.order pair.second.order pair.second.words.now gs pair.one_order pair.second.sound in
     let next = some_next _ pair.first.order c.in-Some.column (sym c.in-Some.is ∙ c.next_column.ensures) in
-    let within = spots_within a.ring pair.first.order pair.first.words.now fs pair.second.words.now gs one two m.row m.from m.p m.q c.requires m.merging c.in-Some.column next.0 (rw next.0 next.1) c.spot-x.result c.spot-y.result c.spot-x.ensures (rw pair.one_order at c.spot-y.ensures) (cond (eqb c.spot-x.result m.p) (m.p + 1) m.p) (cond (eqb c.spot-y.result m.q) (m.q + 1) m.q) refl refl in
+    let within = spots_within a.ring pair.first.order pair.first.words.now fs pair.second.words.now gs (first_sound pair) (second_sound pair) m.row m.from m.p m.q c.requires m.merging c.in-Some.column next.0 (rw next.0 next.1) c.spot-x.result c.spot-y.result c.spot-x.ensures (rw pair.one_order at c.spot-y.ensures) (cond (eqb c.spot-x.result m.p) (m.p + 1) m.p) (cond (eqb c.spot-y.result m.q) (m.q + 1) m.q) refl refl in
     within.1
 
 pub advanced-self-requires : goal.advanced-self-requires
@@ -62,11 +54,9 @@ advanced-self-requires g c =
     let pair = m.pair.now in
     let fs = meanings a pair.first.figures.now in
     let gs = meanings a pair.second.figures.now in
-    let one = sound_known a.ring pair.first.order pair.first.words.now fs pair.first.sound in
-    let two = sound_known_as a.ring pair.first.order pair.second.order pair.second.words.now gs pair.one_order pair.second.sound in
     let at = m.merging.first c.requires in
     let to = at.to in
-    omega (arith, row_within a.ring pair.first.order pair.first.words.now fs one (m.row + 1) (omega arith), pair.small_first)
+    omega (arith, row_within a.ring pair.first.order pair.first.words.now fs (first_sound pair) (m.row + 1) (omega arith), pair.small_first)
 
 pub advanced-self-requires-2 : goal.advanced-self-requires-2
 advanced-self-requires-2 g c =
@@ -75,11 +65,9 @@ advanced-self-requires-2 g c =
     let pair = m.pair.now in
     let fs = meanings a pair.first.figures.now in
     let gs = meanings a pair.second.figures.now in
-    let one = sound_known a.ring pair.first.order pair.first.words.now fs pair.first.sound in
-    let two = sound_known_as a.ring pair.first.order pair.second.order pair.second.words.now gs pair.one_order pair.second.sound in
     let at = m.merging.second c.requires in
     let to = at.to in
-    omega (arith, row_within a.ring pair.first.order pair.second.words.now gs two (m.row + 1) (omega arith), pair.small_second)
+    omega (arith, row_within a.ring pair.first.order pair.second.words.now gs (second_sound pair) (m.row + 1) (omega arith), pair.small_second)
 
 pub invariant_of-self-2 : goal.invariant_of-self-2
 invariant_of-self-2 g c =
@@ -88,10 +76,8 @@ invariant_of-self-2 g c =
     let pair = m.pair.now in
     let fs = meanings a pair.first.figures.now in
     let gs = meanings a pair.second.figures.now in
-    let one = sound_known a.ring pair.first.order pair.first.words.now fs pair.first.sound in
-    let two = sound_known_as a.ring pair.first.order pair.second.order pair.second.words.now gs pair.one_order pair.second.sound in
     let next = some_next _ pair.first.order c.in-Some.column (sym c.in-Some.is ∙ c.next_column.ensures) in
-    let more = merging_next a.ring pair.first.order pair.first.words.now fs pair.second.words.now gs one two m.row m.from m.p m.q c.requires m.merging c.in-Some.column next.0 (rw next.0 next.1) c.spot-x.result c.spot-y.result c.spot-x.ensures (rw pair.one_order at c.spot-y.ensures) c.advanced-self.result c.advanced-self-2.result c.advanced-self.ensures c.advanced-self-2.ensures in
+    let more = merging_next a.ring pair.first.order pair.first.words.now fs pair.second.words.now gs (first_sound pair) (second_sound pair) m.row m.from m.p m.q c.requires m.merging c.in-Some.column next.0 (rw next.0 next.1) c.spot-x.result c.spot-y.result c.spot-x.ensures (rw pair.one_order at c.spot-y.ensures) c.advanced-self.result c.advanced-self-2.result c.advanced-self.ensures c.advanced-self-2.ensures in
     record { merging = more }
 
 pub returns-clause-next : goal.returns-clause-next
@@ -101,9 +87,7 @@ returns-clause-next g c =
     let pair = m.pair.now in
     let fs = meanings a pair.first.figures.now in
     let gs = meanings a pair.second.figures.now in
-    let one = sound_known a.ring pair.first.order pair.first.words.now fs pair.first.sound in
-    let two = sound_known_as a.ring pair.first.order pair.second.order pair.second.words.now gs pair.one_order pair.second.sound in
     let next = some_next _ pair.first.order c.in-Some.column (sym c.in-Some.is ∙ c.next_column.ensures) in
-    let from : m.from ≤ c.in-Some.column = rw next.0 (next_from a.ring pair.first.order pair.first.words.now fs pair.second.words.now gs one two m.row m.from m.p m.q c.requires m.merging) in
+    let from : m.from ≤ c.in-Some.column = rw next.0 (next_from a.ring pair.first.order pair.first.words.now fs pair.second.words.now gs (first_sound pair) (second_sound pair) m.row m.from m.p m.q c.requires m.merging) in
     let short : c.in-Some.column < pair.first.order = rw next.0 next.1 in
-    (from, short, (λ j low to. merging_gap a.ring pair.first.order pair.first.words.now fs pair.second.words.now gs one two m.row m.from m.p m.q c.requires m.merging j low (rw next.0 at to)), merged_here a.ring pair.first.order pair.first.words.now fs pair.second.words.now gs one two m.row m.from m.p m.q c.requires m.merging c.in-Some.column next.0 (rw next.0 next.1) c.spot-x.result c.spot-y.result c.spot-x.ensures (rw pair.one_order at c.spot-y.ensures) c.advanced-self.result c.advanced-self-2.result c.advanced-self.ensures c.advanced-self-2.ensures _ (c.add-figure.ensures ∙ ap₂ a.ring.add c.figure.ensures c.figure-2.ensures), refl, refl)
+    (from, short, (λ j low to. merging_gap a.ring pair.first.order pair.first.words.now fs pair.second.words.now gs (first_sound pair) (second_sound pair) m.row m.from m.p m.q c.requires m.merging j low (rw next.0 at to)), merged_here a.ring pair.first.order pair.first.words.now fs pair.second.words.now gs (first_sound pair) (second_sound pair) m.row m.from m.p m.q c.requires m.merging c.in-Some.column next.0 (rw next.0 next.1) c.spot-x.result c.spot-y.result c.spot-x.ensures (rw pair.one_order at c.spot-y.ensures) c.advanced-self.result c.advanced-self-2.result c.advanced-self.ensures c.advanced-self-2.ensures _ (c.add-figure.ensures ∙ ap₂ a.ring.add c.figure.ensures c.figure-2.ensures), refl, refl)
