@@ -1,15 +1,17 @@
 -- Two sheets of a sound book, at their places.
-use Rattle.std.proofs.Common.{◌≡◌, ℕ, ◌<◌, ◌≤◌, List, [], ◌∷◌, ◌++◌, length, take, sym, ap, ◌∙◌, ap₂, arith, rules}
+use Rattle.std.proofs.Common.{◌≡◌, ℕ, ◌<◌, ◌≤◌, List, [], ◌∷◌, ◌++◌, length, take, Ok, sym, ap, ◌∙◌, ap₂, arith, rules}
 use Rattle.std.proofs.lemmas.List.{places, same_lists, length-take-le}
 use Rattle.arithmetic.specs.Semiring.{Figures, meanings}
-use Rattle.sheet.specs.Packed.{table}
+use Rattle.matrix.specs.Tables.{Table}
+use Rattle.sheet.specs.Packed.{table, packed_length}
 use Rattle.sheet.specs.Writing.{part}
 use Rattle.book.specs.Book.{Arrays, SoundBook, order_of, sheets_of, last_end, sheet_table}
 use Rattle.book.specs.Lines.{Granted, Passes, guard, pair_guard, missing, full}
-use Rattle.book.specs.Checked.{SheetLies, Lying}
+use Rattle.book.specs.Checked.{SheetLies, Lying, PairFound}
 use Rattle.book.proofs.Passing.{guard_passes, missing_passes, pair_passes, granted_both}
 use Rattle.book.proofs.Sheets.{sheet_before, place_sound}
 use Rattle.book.proofs.Ends.{end_within}
+use Rattle.book.proofs.Rooms.{Split, Making}
 
 -- a part of the first places of a list
 part_take : {A : Type 0} (xs : List A) (end from to : ℕ) → to ≤ end → part (take end xs) from to ≡ part xs from to
@@ -67,3 +69,15 @@ flip_granted a b k sound low few = granted_both (guard a b) (_ ∷ (full (sheets
 
 pub pair_granted : {S : Type 0} (a : Figures S) (b : Arrays S) (i j : ℕ) → SoundBook a b → i < sheets_of b → j < sheets_of b → sheets_of b < 16 → Granted (pair_guard a b i j)
 pair_granted a b i j sound low low' few = granted_both (guard a b) (_ ∷ (full (sheets_of b) ∷ [])) (guard_passes b a sound) (pair_passes b i j low low', (full_passes (sheets_of b) few, tt))
+
+-- a call that makes a sheet of two: op is what it makes of two tables of an order
+module _ {S : Type 0} (a : Figures S) (b : Arrays S) (i j : ℕ) (one two : ℕ × ℕ) (found : PairFound a b i j (Ok (one, two))) {used free : List ℕ} {used' free' : List S} (split : Split b used free used' free') (op : ℕ → Table a.F → Table a.F → Table a.F) where
+  pub pair_making : (n : ℕ) (ws us : List ℕ) (fs gs : List S) (size : ℕ) → n ≡ order_of b → ws ≡ part used one.0 one.1 → fs ≡ part used' one.0 one.1 → us ≡ part used two.0 two.1 → gs ≡ part used' two.0 two.1 → size ≡ packed_length a.ring n (op n (table a.ring ws (meanings a fs)) (table a.ring us (meanings a gs))) → Making a b (pair_guard a b i j) (op (order_of b) (sheet_table a b i) (sheet_table a b j)) used free used' free' n (op n (table a.ring ws (meanings a fs)) (table a.ring us (meanings a gs))) size
+  pair_making n ws us fs gs size order we fe ue ge is = record {
+    sound = found.0.sound;
+    split = split;
+    pass = pair_granted a b i j found.0.sound found.0.there found.1.there found.2;
+    order = order;
+    same = ap₂ (op n) (used_table a b i one found.0 used used' split.used_is split.used_is' ws fs we fe) (used_table a b j two found.1 used used' split.used_is split.used_is' us gs ue ge) ∙ ap (λ k. op k (sheet_table a b i) (sheet_table a b j)) order;
+    size_is = is;
+  }

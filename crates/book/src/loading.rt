@@ -5,7 +5,7 @@ ghost use Rattle.book.specs.Calls.{Outcome, Load};
 use crate::check::check_book;
 use crate::making::{check_full, check_room, enter_sheet};
 use arithmetic::Arithmetic;
-use sheet::{Entries, Refusal};
+use sheet::{Entries, Refusal, check_entries};
 
 // Whether the three lists of entries are equally long.
 fn check_lists<F: Arithmetic>(rows: &[u32], columns: &[u32], values: &[F]) -> Result<(), Refusal>
@@ -36,12 +36,12 @@ pub fn load<F: Arithmetic>(
     let order = header[0] as usize;
     let sheets = header[1] as usize;
     check_full(sheets)?;
+    check_entries(order, rows, columns)?;
     let entries = Entries {
         rows,
         columns,
         figures: values,
     };
-    entries.check(order)?;
     let size = entries.packed_length(order);
     let end = header[2 + sheets] as usize;
     let (_, free) = index.split_at_mut(end);

@@ -7,6 +7,34 @@ use crate::Refusal;
 use crate::writing::{places, start_row, write_entry};
 use arithmetic::Arithmetic;
 
+// Whether entry k lies in a table of this order, and after the entry before it.
+fn is_placed(order: usize, rows: &[u32], columns: &[u32], k: usize) -> bool
+    requires { (k < length rows.now) × (length columns.now ≡ length rows.now) }
+    ensures { Decides result (Placed order rows.now columns.now k) }
+{
+    if rows[k] as usize >= order || columns[k] as usize >= order {
+        return false;
+    }
+    if k == 0 {
+        return true;
+    }
+    rows[k - 1] < rows[k] || (rows[k - 1] == rows[k] && columns[k - 1] < columns[k])
+}
+
+// Whether every entry is placed, or which is the first that is not. They are gone through by their places, since an
+// entry is held against the one before it.
+pub fn check_entries(order: usize, rows: &[u32], columns: &[u32]) -> Result<(), Refusal>
+    requires { length columns.now ≡ length rows.now }
+    ensures { EntriesChecked order rows.now columns.now result }
+{
+    for k in 0..rows.len() {
+        if !is_placed(order, rows, columns, k) {
+            return Err(Refusal::Misplaced(k));
+        }
+    }
+    Ok(())
+}
+
 // The entries of a table, as three lists of one length: their rows, their columns and their figures.
 #[derive(Drop)]
 pub struct Entries<'a, F> {
@@ -18,35 +46,6 @@ pub struct Entries<'a, F> {
 }
 
 impl<F: Arithmetic> Entries<'_, F> {
-    // Whether entry k lies in a table of this order, and after the entry before it.
-    fn is_placed(&self, order: usize, k: usize) -> bool
-        requires { k < length self.now.rows.now }
-        ensures { Decides result (Placed order self.now.rows.now self.now.columns.now k) }
-    {
-        let rows = self.rows;
-        let columns = self.columns;
-        if rows[k] as usize >= order || columns[k] as usize >= order {
-            return false;
-        }
-        if k == 0 {
-            return true;
-        }
-        rows[k - 1] < rows[k] || (rows[k - 1] == rows[k] && columns[k - 1] < columns[k])
-    }
-
-    // Whether every entry is placed, or which is the first that is not.
-    pub fn check(&self, order: usize) -> Result<(), Refusal>
-        ensures { EntriesChecked order self.now.rows.now self.now.columns.now result }
-    {
-        // By their places: an entry is held against the one before it.
-        for k in 0..self.rows.len() {
-            if !self.is_placed(order, k) {
-                return Err(Refusal::Misplaced(k));
-            }
-        }
-        Ok(())
-    }
-
     // How long the packed form of the table is.
     pub fn packed_length(&self, order: usize) -> usize
         requires order { (1 ≤ order) × (order ≤ 1024) }

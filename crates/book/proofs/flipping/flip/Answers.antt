@@ -1,7 +1,6 @@
 use Rattle.std.proofs.Common.{◌≤◌, [], ◌∷◌, ◌++◌, length, sym, refl, ap, arith}
-use Rattle.arithmetic.specs.Semiring.{meanings}
 use Rattle.matrix.specs.Tables.{flipped}
-use Rattle.sheet.specs.Packed.{table}
+use Rattle.sheet.specs.Sheets.{table_of}
 use Rattle.sheet.proofs.Known.{sheet_sound}
 use Rattle.transpose.proofs.Hits.{flipped_length}
 use Rattle.book.specs.Book.{Arrays, sheets_of, sheet_table}
@@ -13,7 +12,7 @@ use Rattle.book.proofs.Ends.{end_within, few_from}
 use Rattle.book.proofs.Starts.{few}
 use Rattle.book.proofs.Sheets.{order_most, sheets_few}
 use Rattle.book.proofs.Pairs.{lying_used, used_table, flip_granted}
-use Rattle.book.proofs.Rooms.{Split, free_paired, free_small, making_sent, making_room, making_end, making_done}
+use Rattle.book.proofs.Rooms.{Making, making_arrays, making_sent, making_room, making_end, making_done}
 use Rattle.book.proofs.flipping.flip.Goals as goal
 
 pub returns-in_err-place : goal.returns-in_err-place
@@ -38,12 +37,7 @@ pub sheet_at-sheet-requires : goal.sheet_at-sheet-requires
 sheet_at-sheet-requires g c =
     let a = g.F.Arithmetic.figures in
     let b : Arrays g.row.F.Denot = record { header = c.args.header.now; index = c.args.index.now; figures = c.args.figures.now } in
-    let k = c.args.sheet in
-    let found = c.in_ok-place.ensures in
-    let sound = found.sound in
-    let used = c.split_at_mut-used.ensures in
-    let used' = c.split_at_mut-used_figures.ensures in
-    lying_used a b k c.in_ok-place.place found _ _ used.front used'.front
+    lying_used a b c.args.sheet _ c.in_ok-place.ensures _ _ c.split_at_mut-used.ensures.front c.split_at_mut-used_figures.ensures.front
 
 pub returns-in_err-check_room : goal.returns-in_err-check_room
 returns-in_err-check_room g c =
@@ -57,10 +51,15 @@ returns-in_err-check_room g c =
     let few = few_from (sheets_of b) (sheets_few a b sound) c.in_ok-check_full.ensures in
     let sheet = c.sheet_at-sheet.result in
     let is = c.sheet_at-sheet.ensures in
-    let split : Split b _ _ _ _ = record { used_is = used.front; free_is = used.back; whole = used.value; used_is' = used'.front; free_is' = used'.back; whole' = used'.value } in
-    let same = ap flipped (used_table a b k c.in_ok-place.place found _ _ used.front used'.front sheet.words.now sheet.figures.now is.words is.figures) in
-    let size = sym (flipped_length a.ring sheet.order sheet.words.now (meanings a sheet.figures.now) (sheet_sound sheet)) in
-    let p = making_sent a b sound _ _ _ _ split (guard a b ++ (missing b (k ∷ []) ∷ (full (sheets_of b) ∷ []))) (flip_granted a b k sound found.there few) (flipped (sheet_table a b k)) sheet.order (flipped (table a.ring sheet.words.now (meanings a sheet.figures.now))) is.order same (length sheet.words.now) size c.from_residual-in_err-check_room.result c.in_err-check_room.field-0.0 c.from_residual-in_err-check_room.ensures.1 c.in_err-check_room.ensures in
+    let made : Making a b (guard a b ++ (missing b (k ∷ []) ∷ (full (sheets_of b) ∷ []))) (flipped (sheet_table a b k)) _ _ _ _ sheet.order (flipped (table_of sheet)) (length sheet.words.now) = record {
+      sound = sound;
+      split = record { used_is = used.front; free_is = used.back; whole = used.value; used_is' = used'.front; free_is' = used'.back; whole' = used'.value };
+      pass = flip_granted a b k sound found.there few;
+      order = is.order;
+      same = ap flipped (used_table a b k _ found _ _ used.front used'.front _ _ is.words is.figures);
+      size_is = sym (flipped_length a.ring _ _ _ (sheet_sound sheet));
+    } in
+    let p = making_sent made c.from_residual-in_err-check_room.result c.in_err-check_room.field-0.0 c.from_residual-in_err-check_room.ensures.1 c.in_err-check_room.ensures in
     rw p.1 p.2
 
 pub write_flipped-requires : goal.write_flipped-requires
@@ -75,13 +74,18 @@ write_flipped-requires g c =
     let few = few_from (sheets_of b) (sheets_few a b sound) c.in_ok-check_full.ensures in
     let sheet = c.sheet_at-sheet.result in
     let is = c.sheet_at-sheet.ensures in
-    let split : Split b _ _ _ _ = record { used_is = used.front; free_is = used.back; whole = used.value; used_is' = used'.front; free_is' = used'.back; whole' = used'.value } in
-    let same = ap flipped (used_table a b k c.in_ok-place.place found _ _ used.front used'.front sheet.words.now sheet.figures.now is.words is.figures) in
-    let size = sym (flipped_length a.ring sheet.order sheet.words.now (meanings a sheet.figures.now) (sheet_sound sheet)) in
-    let small = free_small a b sound _ _ _ _ split (guard a b ++ (missing b (k ∷ []) ∷ (full (sheets_of b) ∷ []))) (flip_granted a b k sound found.there few) (flipped (sheet_table a b k)) sheet.order (flipped (table a.ring sheet.words.now (meanings a sheet.figures.now))) is.order same (length sheet.words.now) size in
-    let fits : length sheet.words.now ≤ _ = rw size (making_room a b sound _ _ _ _ split (guard a b ++ (missing b (k ∷ []) ∷ (full (sheets_of b) ∷ []))) (flip_granted a b k sound found.there few) (flipped (sheet_table a b k)) sheet.order (flipped (table a.ring sheet.words.now (meanings a sheet.figures.now))) is.order same (length sheet.words.now) size c.in_ok-check_room.ensures) in
-    let few_rows : sheet.order ≤ 1024 = rw is.order (order_most a b sound) in
-    record { small = (few_rows, omega arith); arrays = (free_paired a b sound _ _ _ _ split (guard a b ++ (missing b (k ∷ []) ∷ (full (sheets_of b) ∷ []))) (flip_granted a b k sound found.there few) (flipped (sheet_table a b k)) sheet.order (flipped (table a.ring sheet.words.now (meanings a sheet.figures.now))) is.order same (length sheet.words.now) size, small); room = fits }
+    let made : Making a b (guard a b ++ (missing b (k ∷ []) ∷ (full (sheets_of b) ∷ []))) (flipped (sheet_table a b k)) _ _ _ _ sheet.order (flipped (table_of sheet)) (length sheet.words.now) = record {
+      sound = sound;
+      split = record { used_is = used.front; free_is = used.back; whole = used.value; used_is' = used'.front; free_is' = used'.back; whole' = used'.value };
+      pass = flip_granted a b k sound found.there few;
+      order = is.order;
+      same = ap flipped (used_table a b k _ found _ _ used.front used'.front _ _ is.words is.figures);
+      size_is = sym (flipped_length a.ring _ _ _ (sheet_sound sheet));
+    } in
+    let arrays = making_arrays made in
+    let fits : length sheet.words.now ≤ _ = rw made.size_is (making_room made c.in_ok-check_room.ensures) in
+    let low : sheet.order ≤ 1024 = rw is.order (order_most a b sound) in
+    record { small = (low, omega arith); arrays = arrays; room = fits }
 
 pub overflow_add-end-2 : goal.overflow_add-end-2
 overflow_add-end-2 g c =
@@ -95,10 +99,15 @@ overflow_add-end-2 g c =
     let few = few_from (sheets_of b) (sheets_few a b sound) c.in_ok-check_full.ensures in
     let sheet = c.sheet_at-sheet.result in
     let is = c.sheet_at-sheet.ensures in
-    let split : Split b _ _ _ _ = record { used_is = used.front; free_is = used.back; whole = used.value; used_is' = used'.front; free_is' = used'.back; whole' = used'.value } in
-    let same = ap flipped (used_table a b k c.in_ok-place.place found _ _ used.front used'.front sheet.words.now sheet.figures.now is.words is.figures) in
-    let size = sym (flipped_length a.ring sheet.order sheet.words.now (meanings a sheet.figures.now) (sheet_sound sheet)) in
-    omega (arith, making_end a b sound _ _ _ _ split (guard a b ++ (missing b (k ∷ []) ∷ (full (sheets_of b) ∷ []))) (flip_granted a b k sound found.there few) (flipped (sheet_table a b k)) sheet.order (flipped (table a.ring sheet.words.now (meanings a sheet.figures.now))) is.order same (length sheet.words.now) size c.in_ok-check_room.ensures)
+    let made : Making a b (guard a b ++ (missing b (k ∷ []) ∷ (full (sheets_of b) ∷ []))) (flipped (sheet_table a b k)) _ _ _ _ sheet.order (flipped (table_of sheet)) (length sheet.words.now) = record {
+      sound = sound;
+      split = record { used_is = used.front; free_is = used.back; whole = used.value; used_is' = used'.front; free_is' = used'.back; whole' = used'.value };
+      pass = flip_granted a b k sound found.there few;
+      order = is.order;
+      same = ap flipped (used_table a b k _ found _ _ used.front used'.front _ _ is.words is.figures);
+      size_is = sym (flipped_length a.ring _ _ _ (sheet_sound sheet));
+    } in
+    omega (arith, making_end made c.in_ok-check_room.ensures)
 
 pub enter_sheet-requires : goal.enter_sheet-requires
 enter_sheet-requires g c =
@@ -112,10 +121,15 @@ enter_sheet-requires g c =
     let few = few_from (sheets_of b) (sheets_few a b sound) c.in_ok-check_full.ensures in
     let sheet = c.sheet_at-sheet.result in
     let is = c.sheet_at-sheet.ensures in
-    let split : Split b _ _ _ _ = record { used_is = used.front; free_is = used.back; whole = used.value; used_is' = used'.front; free_is' = used'.back; whole' = used'.value } in
-    let same = ap flipped (used_table a b k c.in_ok-place.place found _ _ used.front used'.front sheet.words.now sheet.figures.now is.words is.figures) in
-    let size = sym (flipped_length a.ring sheet.order sheet.words.now (meanings a sheet.figures.now) (sheet_sound sheet)) in
-    (sound.words, (few, making_end a b sound _ _ _ _ split (guard a b ++ (missing b (k ∷ []) ∷ (full (sheets_of b) ∷ []))) (flip_granted a b k sound found.there few) (flipped (sheet_table a b k)) sheet.order (flipped (table a.ring sheet.words.now (meanings a sheet.figures.now))) is.order same (length sheet.words.now) size c.in_ok-check_room.ensures))
+    let made : Making a b (guard a b ++ (missing b (k ∷ []) ∷ (full (sheets_of b) ∷ []))) (flipped (sheet_table a b k)) _ _ _ _ sheet.order (flipped (table_of sheet)) (length sheet.words.now) = record {
+      sound = sound;
+      split = record { used_is = used.front; free_is = used.back; whole = used.value; used_is' = used'.front; free_is' = used'.back; whole' = used'.value };
+      pass = flip_granted a b k sound found.there few;
+      order = is.order;
+      same = ap flipped (used_table a b k _ found _ _ used.front used'.front _ _ is.words is.figures);
+      size_is = sym (flipped_length a.ring _ _ _ (sheet_sound sheet));
+    } in
+    (sound.words, (few, making_end made c.in_ok-check_room.ensures))
 
 pub returns : goal.returns
 returns g c =
@@ -129,8 +143,13 @@ returns g c =
     let few = few_from (sheets_of b) (sheets_few a b sound) c.in_ok-check_full.ensures in
     let sheet = c.sheet_at-sheet.result in
     let is = c.sheet_at-sheet.ensures in
-    let split : Split b _ _ _ _ = record { used_is = used.front; free_is = used.back; whole = used.value; used_is' = used'.front; free_is' = used'.back; whole' = used'.value } in
-    let same = ap flipped (used_table a b k c.in_ok-place.place found _ _ used.front used'.front sheet.words.now sheet.figures.now is.words is.figures) in
-    let size = sym (flipped_length a.ring sheet.order sheet.words.now (meanings a sheet.figures.now) (sheet_sound sheet)) in
-    let done = making_done a b sound _ _ _ _ split (guard a b ++ (missing b (k ∷ []) ∷ (full (sheets_of b) ∷ []))) (flip_granted a b k sound found.there few) (flipped (sheet_table a b k)) sheet.order (flipped (table a.ring sheet.words.now (meanings a sheet.figures.now))) is.order same (length sheet.words.now) size c.in_ok-check_room.ensures c.enter_sheet.new.header c.write_flipped.new.index c.write_flipped.new.figures c.write_flipped.ensures c.enter_sheet.ensures.words in
+    let made : Making a b (guard a b ++ (missing b (k ∷ []) ∷ (full (sheets_of b) ∷ []))) (flipped (sheet_table a b k)) _ _ _ _ sheet.order (flipped (table_of sheet)) (length sheet.words.now) = record {
+      sound = sound;
+      split = record { used_is = used.front; free_is = used.back; whole = used.value; used_is' = used'.front; free_is' = used'.back; whole' = used'.value };
+      pass = flip_granted a b k sound found.there few;
+      order = is.order;
+      same = ap flipped (used_table a b k _ found _ _ used.front used'.front _ _ is.words is.figures);
+      size_is = sym (flipped_length a.ring _ _ _ (sheet_sound sheet));
+    } in
+    let done = making_done made c.in_ok-check_room.ensures c.enter_sheet.new.header c.write_flipped.new.index c.write_flipped.new.figures c.write_flipped.ensures c.enter_sheet.ensures.words in
     (done.0, (c.enter_sheet.ensures.number, done.1))

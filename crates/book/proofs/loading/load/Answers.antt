@@ -1,27 +1,25 @@
 use Rattle.std.proofs.Common.{[], ◌∷◌, ◌++◌, refl, arith}
 use Rattle.sheet.proofs.Lists.{listed}
 use Rattle.book.specs.Book.{Arrays, order_of, sheets_of}
-use Rattle.book.specs.Lines.{Granted, guard, full, list_lengths, misplaced}
+use Rattle.book.specs.Lines.{guard, full, list_lengths, misplaced}
 use Rattle.book.proofs.Passing.{guard_passes, granted_both, no_break}
 use Rattle.book.proofs.Ends.{end_within, few_from, lists_even}
 use Rattle.book.proofs.Starts.{few}
-use Rattle.book.proofs.Rooms.{Split, free_paired, free_small, making_sent, making_room, making_end, making_done}
+use Rattle.book.proofs.Rooms.{Split, Making, making_arrays, making_sent, making_room, making_end, making_done}
 use Rattle.book.proofs.loading.load.Goals as goal
+
+pub check_entries-requires : goal.check_entries-requires
+check_entries-requires g c = (lists_even c.args.rows.now c.args.columns.now c.args.values.now c.in_ok-check_lists.ensures).0
 
 pub invariant_of-entries : goal.invariant_of-entries
 invariant_of-entries g c =
-    let a = g.F.Arithmetic.figures in
-    let b : Arrays g.row.F.Denot = record { header = c.args.header.now; index = c.args.index.now; figures = c.args.figures.now } in
-    let sound = c.in_ok-check_book.ensures in
     let even = lists_even c.args.rows.now c.args.columns.now c.args.values.now c.in_ok-check_lists.ensures in
     record { a_column_each = even.0; a_figure_each = even.1 }
 
 pub packed_length-size-requires : goal.packed_length-size-requires
 packed_length-size-requires g c =
-    let a = g.F.Arithmetic.figures in
-    let b : Arrays g.row.F.Denot = record { header = c.args.header.now; index = c.args.index.now; figures = c.args.figures.now } in
     let sound = c.in_ok-check_book.ensures in
-    record { order = (sound.header_rules 0 (omega arith)).order refl; placed = c.in_ok-check.ensures }
+    record { order = (sound.header_rules 0 (omega arith)).order refl; placed = c.in_ok-check_entries.ensures }
 
 pub bounds-header-sheets : goal.bounds-header-sheets
 bounds-header-sheets g c =
@@ -41,8 +39,15 @@ returns-in_err-check_room g c =
     let free = c.split_at_mut-free.ensures in
     let free' = c.split_at_mut-free_figures.ensures in
     let split : Split b _ _ _ _ = record { used_is = free.front; free_is = free.back; whole = free.value; used_is' = free'.front; free_is' = free'.back; whole' = free'.value } in
-    let pass : Granted (guard a b ++ (list_lengths c.args.rows.now c.args.columns.now c.args.values.now ∷ (full (sheets_of b) ∷ (misplaced (order_of b) c.args.rows.now c.args.columns.now ∷ [])))) = granted_both (guard a b) (list_lengths c.args.rows.now c.args.columns.now c.args.values.now ∷ (full (sheets_of b) ∷ (misplaced (order_of b) c.args.rows.now c.args.columns.now ∷ []))) (guard_passes b a sound) (c.in_ok-check_lists.ensures, (c.in_ok-check_full.ensures, ((λ why told. no_break _ _ told.0 c.in_ok-check.ensures told.2), tt))) in
-    let p = making_sent a b sound _ _ _ _ split (guard a b ++ (list_lengths c.args.rows.now c.args.columns.now c.args.values.now ∷ (full (sheets_of b) ∷ (misplaced (order_of b) c.args.rows.now c.args.columns.now ∷ [])))) pass (listed a c.args.rows.now c.args.columns.now c.args.values.now) (order_of b) _ refl refl c.packed_length-size.result c.packed_length-size.ensures c.from_residual-in_err-check_room.result c.in_err-check_room.field-0.0 c.from_residual-in_err-check_room.ensures.1 c.in_err-check_room.ensures in
+    let made : Making a b (guard a b ++ (list_lengths c.args.rows.now c.args.columns.now c.args.values.now ∷ (full (sheets_of b) ∷ (misplaced (order_of b) c.args.rows.now c.args.columns.now ∷ [])))) (listed a c.args.rows.now c.args.columns.now c.args.values.now) _ _ _ _ (order_of b) (listed a c.args.rows.now c.args.columns.now c.args.values.now) c.packed_length-size.result = record {
+      sound = sound;
+      split = split;
+      pass = granted_both (guard a b) (list_lengths c.args.rows.now c.args.columns.now c.args.values.now ∷ (full (sheets_of b) ∷ (misplaced (order_of b) c.args.rows.now c.args.columns.now ∷ []))) (guard_passes b a sound) (c.in_ok-check_lists.ensures, (c.in_ok-check_full.ensures, ((λ why told. no_break _ _ told.0 c.in_ok-check_entries.ensures told.2), tt)));
+      order = refl;
+      same = refl;
+      size_is = c.packed_length-size.ensures;
+    } in
+    let p = making_sent made c.from_residual-in_err-check_room.result c.in_err-check_room.field-0.0 c.from_residual-in_err-check_room.ensures.1 c.in_err-check_room.ensures in
     rw p.1 p.2
 
 pub write-requires : goal.write-requires
@@ -53,37 +58,16 @@ write-requires g c =
     let free = c.split_at_mut-free.ensures in
     let free' = c.split_at_mut-free_figures.ensures in
     let split : Split b _ _ _ _ = record { used_is = free.front; free_is = free.back; whole = free.value; used_is' = free'.front; free_is' = free'.back; whole' = free'.value } in
-    let pass : Granted (guard a b ++ (list_lengths c.args.rows.now c.args.columns.now c.args.values.now ∷ (full (sheets_of b) ∷ (misplaced (order_of b) c.args.rows.now c.args.columns.now ∷ [])))) = granted_both (guard a b) (list_lengths c.args.rows.now c.args.columns.now c.args.values.now ∷ (full (sheets_of b) ∷ (misplaced (order_of b) c.args.rows.now c.args.columns.now ∷ []))) (guard_passes b a sound) (c.in_ok-check_lists.ensures, (c.in_ok-check_full.ensures, ((λ why told. no_break _ _ told.0 c.in_ok-check.ensures told.2), tt))) in
+    let made : Making a b (guard a b ++ (list_lengths c.args.rows.now c.args.columns.now c.args.values.now ∷ (full (sheets_of b) ∷ (misplaced (order_of b) c.args.rows.now c.args.columns.now ∷ [])))) (listed a c.args.rows.now c.args.columns.now c.args.values.now) _ _ _ _ (order_of b) (listed a c.args.rows.now c.args.columns.now c.args.values.now) c.packed_length-size.result = record {
+      sound = sound;
+      split = split;
+      pass = granted_both (guard a b) (list_lengths c.args.rows.now c.args.columns.now c.args.values.now ∷ (full (sheets_of b) ∷ (misplaced (order_of b) c.args.rows.now c.args.columns.now ∷ []))) (guard_passes b a sound) (c.in_ok-check_lists.ensures, (c.in_ok-check_full.ensures, ((λ why told. no_break _ _ told.0 c.in_ok-check_entries.ensures told.2), tt)));
+      order = refl;
+      same = refl;
+      size_is = c.packed_length-size.ensures;
+    } in
     let bounds = (sound.header_rules 0 (omega arith)).order refl in
-    record {
-      order = bounds;
-      arrays = (free_paired a b sound _ _ _ _ split (guard a b ++ (list_lengths c.args.rows.now c.args.columns.now c.args.values.now ∷ (full (sheets_of b) ∷ (misplaced (order_of b) c.args.rows.now c.args.columns.now ∷ [])))) pass (listed a c.args.rows.now c.args.columns.now c.args.values.now) (order_of b) _ refl refl c.packed_length-size.result c.packed_length-size.ensures, free_small a b sound _ _ _ _ split (guard a b ++ (list_lengths c.args.rows.now c.args.columns.now c.args.values.now ∷ (full (sheets_of b) ∷ (misplaced (order_of b) c.args.rows.now c.args.columns.now ∷ [])))) pass (listed a c.args.rows.now c.args.columns.now c.args.values.now) (order_of b) _ refl refl c.packed_length-size.result c.packed_length-size.ensures);
-      room = making_room a b sound _ _ _ _ split (guard a b ++ (list_lengths c.args.rows.now c.args.columns.now c.args.values.now ∷ (full (sheets_of b) ∷ (misplaced (order_of b) c.args.rows.now c.args.columns.now ∷ [])))) pass (listed a c.args.rows.now c.args.columns.now c.args.values.now) (order_of b) _ refl refl c.packed_length-size.result c.packed_length-size.ensures c.in_ok-check_room.ensures;
-      placed = c.in_ok-check.ensures;
-    }
-
-pub enter_sheet-requires : goal.enter_sheet-requires
-enter_sheet-requires g c =
-    let a = g.F.Arithmetic.figures in
-    let b : Arrays g.row.F.Denot = record { header = c.args.header.now; index = c.args.index.now; figures = c.args.figures.now } in
-    let sound = c.in_ok-check_book.ensures in
-    let free = c.split_at_mut-free.ensures in
-    let free' = c.split_at_mut-free_figures.ensures in
-    let split : Split b _ _ _ _ = record { used_is = free.front; free_is = free.back; whole = free.value; used_is' = free'.front; free_is' = free'.back; whole' = free'.value } in
-    let pass : Granted (guard a b ++ (list_lengths c.args.rows.now c.args.columns.now c.args.values.now ∷ (full (sheets_of b) ∷ (misplaced (order_of b) c.args.rows.now c.args.columns.now ∷ [])))) = granted_both (guard a b) (list_lengths c.args.rows.now c.args.columns.now c.args.values.now ∷ (full (sheets_of b) ∷ (misplaced (order_of b) c.args.rows.now c.args.columns.now ∷ []))) (guard_passes b a sound) (c.in_ok-check_lists.ensures, (c.in_ok-check_full.ensures, ((λ why told. no_break _ _ told.0 c.in_ok-check.ensures told.2), tt))) in
-    (sound.words, (few_from (sheets_of b) (few _ _ sound.header_rules) c.in_ok-check_full.ensures, making_end a b sound _ _ _ _ split (guard a b ++ (list_lengths c.args.rows.now c.args.columns.now c.args.values.now ∷ (full (sheets_of b) ∷ (misplaced (order_of b) c.args.rows.now c.args.columns.now ∷ [])))) pass (listed a c.args.rows.now c.args.columns.now c.args.values.now) (order_of b) _ refl refl c.packed_length-size.result c.packed_length-size.ensures c.in_ok-check_room.ensures))
-
-pub returns : goal.returns
-returns g c =
-    let a = g.F.Arithmetic.figures in
-    let b : Arrays g.row.F.Denot = record { header = c.args.header.now; index = c.args.index.now; figures = c.args.figures.now } in
-    let sound = c.in_ok-check_book.ensures in
-    let free = c.split_at_mut-free.ensures in
-    let free' = c.split_at_mut-free_figures.ensures in
-    let split : Split b _ _ _ _ = record { used_is = free.front; free_is = free.back; whole = free.value; used_is' = free'.front; free_is' = free'.back; whole' = free'.value } in
-    let pass : Granted (guard a b ++ (list_lengths c.args.rows.now c.args.columns.now c.args.values.now ∷ (full (sheets_of b) ∷ (misplaced (order_of b) c.args.rows.now c.args.columns.now ∷ [])))) = granted_both (guard a b) (list_lengths c.args.rows.now c.args.columns.now c.args.values.now ∷ (full (sheets_of b) ∷ (misplaced (order_of b) c.args.rows.now c.args.columns.now ∷ []))) (guard_passes b a sound) (c.in_ok-check_lists.ensures, (c.in_ok-check_full.ensures, ((λ why told. no_break _ _ told.0 c.in_ok-check.ensures told.2), tt))) in
-    let done = making_done a b sound _ _ _ _ split (guard a b ++ (list_lengths c.args.rows.now c.args.columns.now c.args.values.now ∷ (full (sheets_of b) ∷ (misplaced (order_of b) c.args.rows.now c.args.columns.now ∷ [])))) pass (listed a c.args.rows.now c.args.columns.now c.args.values.now) (order_of b) _ refl refl c.packed_length-size.result c.packed_length-size.ensures c.in_ok-check_room.ensures c.enter_sheet.new.header c.write.new.index c.write.new.figures c.write.ensures c.enter_sheet.ensures.words in
-    (done.0, (c.enter_sheet.ensures.number, done.1))
+    record { order = bounds; arrays = making_arrays made; room = making_room made c.in_ok-check_room.ensures; placed = c.in_ok-check_entries.ensures }
 
 pub overflow_add-end-2 : goal.overflow_add-end-2
 overflow_add-end-2 g c =
@@ -93,5 +77,49 @@ overflow_add-end-2 g c =
     let free = c.split_at_mut-free.ensures in
     let free' = c.split_at_mut-free_figures.ensures in
     let split : Split b _ _ _ _ = record { used_is = free.front; free_is = free.back; whole = free.value; used_is' = free'.front; free_is' = free'.back; whole' = free'.value } in
-    let pass : Granted (guard a b ++ (list_lengths c.args.rows.now c.args.columns.now c.args.values.now ∷ (full (sheets_of b) ∷ (misplaced (order_of b) c.args.rows.now c.args.columns.now ∷ [])))) = granted_both (guard a b) (list_lengths c.args.rows.now c.args.columns.now c.args.values.now ∷ (full (sheets_of b) ∷ (misplaced (order_of b) c.args.rows.now c.args.columns.now ∷ []))) (guard_passes b a sound) (c.in_ok-check_lists.ensures, (c.in_ok-check_full.ensures, ((λ why told. no_break _ _ told.0 c.in_ok-check.ensures told.2), tt))) in
-    omega (arith, making_end a b sound _ _ _ _ split (guard a b ++ (list_lengths c.args.rows.now c.args.columns.now c.args.values.now ∷ (full (sheets_of b) ∷ (misplaced (order_of b) c.args.rows.now c.args.columns.now ∷ [])))) pass (listed a c.args.rows.now c.args.columns.now c.args.values.now) (order_of b) _ refl refl c.packed_length-size.result c.packed_length-size.ensures c.in_ok-check_room.ensures)
+    let made : Making a b (guard a b ++ (list_lengths c.args.rows.now c.args.columns.now c.args.values.now ∷ (full (sheets_of b) ∷ (misplaced (order_of b) c.args.rows.now c.args.columns.now ∷ [])))) (listed a c.args.rows.now c.args.columns.now c.args.values.now) _ _ _ _ (order_of b) (listed a c.args.rows.now c.args.columns.now c.args.values.now) c.packed_length-size.result = record {
+      sound = sound;
+      split = split;
+      pass = granted_both (guard a b) (list_lengths c.args.rows.now c.args.columns.now c.args.values.now ∷ (full (sheets_of b) ∷ (misplaced (order_of b) c.args.rows.now c.args.columns.now ∷ []))) (guard_passes b a sound) (c.in_ok-check_lists.ensures, (c.in_ok-check_full.ensures, ((λ why told. no_break _ _ told.0 c.in_ok-check_entries.ensures told.2), tt)));
+      order = refl;
+      same = refl;
+      size_is = c.packed_length-size.ensures;
+    } in
+    omega (arith, making_end made c.in_ok-check_room.ensures)
+
+pub enter_sheet-requires : goal.enter_sheet-requires
+enter_sheet-requires g c =
+    let a = g.F.Arithmetic.figures in
+    let b : Arrays g.row.F.Denot = record { header = c.args.header.now; index = c.args.index.now; figures = c.args.figures.now } in
+    let sound = c.in_ok-check_book.ensures in
+    let free = c.split_at_mut-free.ensures in
+    let free' = c.split_at_mut-free_figures.ensures in
+    let split : Split b _ _ _ _ = record { used_is = free.front; free_is = free.back; whole = free.value; used_is' = free'.front; free_is' = free'.back; whole' = free'.value } in
+    let made : Making a b (guard a b ++ (list_lengths c.args.rows.now c.args.columns.now c.args.values.now ∷ (full (sheets_of b) ∷ (misplaced (order_of b) c.args.rows.now c.args.columns.now ∷ [])))) (listed a c.args.rows.now c.args.columns.now c.args.values.now) _ _ _ _ (order_of b) (listed a c.args.rows.now c.args.columns.now c.args.values.now) c.packed_length-size.result = record {
+      sound = sound;
+      split = split;
+      pass = granted_both (guard a b) (list_lengths c.args.rows.now c.args.columns.now c.args.values.now ∷ (full (sheets_of b) ∷ (misplaced (order_of b) c.args.rows.now c.args.columns.now ∷ []))) (guard_passes b a sound) (c.in_ok-check_lists.ensures, (c.in_ok-check_full.ensures, ((λ why told. no_break _ _ told.0 c.in_ok-check_entries.ensures told.2), tt)));
+      order = refl;
+      same = refl;
+      size_is = c.packed_length-size.ensures;
+    } in
+    (sound.words, (few_from (sheets_of b) (few _ _ sound.header_rules) c.in_ok-check_full.ensures, making_end made c.in_ok-check_room.ensures))
+
+pub returns : goal.returns
+returns g c =
+    let a = g.F.Arithmetic.figures in
+    let b : Arrays g.row.F.Denot = record { header = c.args.header.now; index = c.args.index.now; figures = c.args.figures.now } in
+    let sound = c.in_ok-check_book.ensures in
+    let free = c.split_at_mut-free.ensures in
+    let free' = c.split_at_mut-free_figures.ensures in
+    let split : Split b _ _ _ _ = record { used_is = free.front; free_is = free.back; whole = free.value; used_is' = free'.front; free_is' = free'.back; whole' = free'.value } in
+    let made : Making a b (guard a b ++ (list_lengths c.args.rows.now c.args.columns.now c.args.values.now ∷ (full (sheets_of b) ∷ (misplaced (order_of b) c.args.rows.now c.args.columns.now ∷ [])))) (listed a c.args.rows.now c.args.columns.now c.args.values.now) _ _ _ _ (order_of b) (listed a c.args.rows.now c.args.columns.now c.args.values.now) c.packed_length-size.result = record {
+      sound = sound;
+      split = split;
+      pass = granted_both (guard a b) (list_lengths c.args.rows.now c.args.columns.now c.args.values.now ∷ (full (sheets_of b) ∷ (misplaced (order_of b) c.args.rows.now c.args.columns.now ∷ []))) (guard_passes b a sound) (c.in_ok-check_lists.ensures, (c.in_ok-check_full.ensures, ((λ why told. no_break _ _ told.0 c.in_ok-check_entries.ensures told.2), tt)));
+      order = refl;
+      same = refl;
+      size_is = c.packed_length-size.ensures;
+    } in
+    let done = making_done made c.in_ok-check_room.ensures c.enter_sheet.new.header c.write.new.index c.write.new.figures c.write.ensures c.enter_sheet.ensures.words in
+    (done.0, (c.enter_sheet.ensures.number, done.1))

@@ -1,23 +1,20 @@
-use Rattle.std.proofs.Common.{[], ◌∷◌, refl, ap, ap₂, ◌∙◌, arith}
+use Rattle.std.proofs.Common.{[], ◌∷◌, refl, arith}
 use Rattle.matrix.specs.Tables.{product}
-use Rattle.product.specs.Meetings.{multiplied}
 use Rattle.book.specs.Book.{Arrays, order_of, sheet_table}
 use Rattle.book.specs.Lines.{pair_guard}
 use Rattle.book.specs.Calls.{no_room}
 use Rattle.book.proofs.Early.{early_by}
 use Rattle.book.proofs.Ends.{end_within}
 use Rattle.book.proofs.Sheets.{order_most}
-use Rattle.book.proofs.Pairs.{lying_used, used_table, pair_granted}
-use Rattle.book.proofs.Rooms.{Split, free_paired, free_small, making_sent, making_room, making_end, making_done}
+use Rattle.book.proofs.Pairs.{lying_used, pair_making}
+use Rattle.book.proofs.Rooms.{making_arrays, making_sent, making_room, making_end, making_done}
 use Rattle.book.proofs.multiplying.multiply.Goals as goal
 
 pub returns-in_err-one : goal.returns-in_err-one
 returns-in_err-one g c =
     let a = g.F.Arithmetic.figures in
     let b : Arrays g.row.F.Denot = record { header = c.args.header.now; index = c.args.index.now; figures = c.args.figures.now } in
-    let i = c.args.first in
-    let j = c.args.second in
-    let p = early_by (pair_guard a b i j) (no_room a b (product a.ring (order_of b) (sheet_table a b i) (sheet_table a b j)) ∷ []) c.from_residual.result c.in_err-one.field-0.0 c.from_residual.ensures.1 c.in_err-one.ensures in
+    let p = early_by (pair_guard a b c.args.first c.args.second) (no_room a b (product a.ring (order_of b) (sheet_table a b c.args.first) (sheet_table a b c.args.second)) ∷ []) c.from_residual.result c.in_err-one.field-0.0 c.from_residual.ensures.1 c.in_err-one.ensures in
     rw p.1 (p.2, refl)
 
 pub split_at_mut-used-requires : goal.split_at_mut-used-requires
@@ -29,108 +26,72 @@ pub pair_at-pair-requires : goal.pair_at-pair-requires
 pair_at-pair-requires g c =
     let a = g.F.Arithmetic.figures in
     let b : Arrays g.row.F.Denot = record { header = c.args.header.now; index = c.args.index.now; figures = c.args.figures.now } in
-    let i = c.args.first in
-    let j = c.args.second in
     let found = c.in_ok-one.ensures in
-    let sound = found.0.sound in
     let used = c.split_at_mut-used.ensures in
     let used' = c.split_at_mut-used_figures.ensures in
     record {
-      first = lying_used a b i c.in_ok-one.one found.0 _ _ used.front used'.front;
-      second = lying_used a b j c.in_ok-one.two found.1 _ _ used.front used'.front;
-      small = (order_most a b sound, omega (arith, sound.small, used.back_len));
+      first = lying_used a b c.args.first _ found.0 _ _ used.front used'.front;
+      second = lying_used a b c.args.second _ found.1 _ _ used.front used'.front;
+      small = (order_most a b found.0.sound, omega (arith, found.0.sound.small, used.back_len));
     }
 
 pub product_length-size-requires : goal.product_length-size-requires
-product_length-size-requires g c = c.new-meetings.ensures _
+product_length-size-requires g c =
+    c.new-meetings.ensures _
 
 pub returns-in_err-check_room : goal.returns-in_err-check_room
 returns-in_err-check_room g c =
     let a = g.F.Arithmetic.figures in
     let b : Arrays g.row.F.Denot = record { header = c.args.header.now; index = c.args.index.now; figures = c.args.figures.now } in
-    let i = c.args.first in
-    let j = c.args.second in
     let found = c.in_ok-one.ensures in
-    let sound = found.0.sound in
     let used = c.split_at_mut-used.ensures in
     let used' = c.split_at_mut-used_figures.ensures in
-    let pair = c.pair_at-pair.result in
-    let is = c.pair_at-pair.ensures in
-    let split : Split b _ _ _ _ = record { used_is = used.front; free_is = used.back; whole = used.value; used_is' = used'.front; free_is' = used'.back; whole' = used'.value } in
-    let one = used_table a b i c.in_ok-one.one found.0 _ _ used.front used'.front pair.first.words.now pair.first.figures.now is.first_words is.first_figures in
-    let two = used_table a b j c.in_ok-one.two found.1 _ _ used.front used'.front pair.second.words.now pair.second.figures.now is.second_words is.second_figures in
-    let p = making_sent a b sound _ _ _ _ split (pair_guard a b i j) (pair_granted a b i j sound found.0.there found.1.there found.2) (product a.ring (order_of b) (sheet_table a b i) (sheet_table a b j)) pair.first.order (multiplied a pair.first.order pair.first.words.now pair.first.figures.now pair.second.words.now pair.second.figures.now) is.order (ap₂ (product a.ring pair.first.order) one two ∙ ap (λ n. product a.ring n (sheet_table a b i) (sheet_table a b j)) is.order) c.product_length-size.result c.product_length-size.ensures.size c.from_residual-in_err-check_room.result c.in_err-check_room.field-0.0 c.from_residual-in_err-check_room.ensures.1 c.in_err-check_room.ensures in
+    let pair = c.pair_at-pair.ensures in
+    let made = pair_making a b c.args.first c.args.second _ _ found (record { used_is = used.front; free_is = used.back; whole = used.value; used_is' = used'.front; free_is' = used'.back; whole' = used'.value }) (product a.ring) _ _ _ _ _ c.product_length-size.result pair.order pair.first_words pair.first_figures pair.second_words pair.second_figures c.product_length-size.ensures.size in
+    let p = making_sent made c.from_residual-in_err-check_room.result c.in_err-check_room.field-0.0 c.from_residual-in_err-check_room.ensures.1 c.in_err-check_room.ensures in
     rw p.1 p.2
 
 pub write_product-requires : goal.write_product-requires
 write_product-requires g c =
     let a = g.F.Arithmetic.figures in
     let b : Arrays g.row.F.Denot = record { header = c.args.header.now; index = c.args.index.now; figures = c.args.figures.now } in
-    let i = c.args.first in
-    let j = c.args.second in
     let found = c.in_ok-one.ensures in
-    let sound = found.0.sound in
     let used = c.split_at_mut-used.ensures in
     let used' = c.split_at_mut-used_figures.ensures in
-    let pair = c.pair_at-pair.result in
-    let is = c.pair_at-pair.ensures in
-    let split : Split b _ _ _ _ = record { used_is = used.front; free_is = used.back; whole = used.value; used_is' = used'.front; free_is' = used'.back; whole' = used'.value } in
-    let one = used_table a b i c.in_ok-one.one found.0 _ _ used.front used'.front pair.first.words.now pair.first.figures.now is.first_words is.first_figures in
-    let two = used_table a b j c.in_ok-one.two found.1 _ _ used.front used'.front pair.second.words.now pair.second.figures.now is.second_words is.second_figures in
-    record {
-      arrays = (free_paired a b sound _ _ _ _ split (pair_guard a b i j) (pair_granted a b i j sound found.0.there found.1.there found.2) (product a.ring (order_of b) (sheet_table a b i) (sheet_table a b j)) pair.first.order (multiplied a pair.first.order pair.first.words.now pair.first.figures.now pair.second.words.now pair.second.figures.now) is.order (ap₂ (product a.ring pair.first.order) one two ∙ ap (λ n. product a.ring n (sheet_table a b i) (sheet_table a b j)) is.order) c.product_length-size.result c.product_length-size.ensures.size, free_small a b sound _ _ _ _ split (pair_guard a b i j) (pair_granted a b i j sound found.0.there found.1.there found.2) (product a.ring (order_of b) (sheet_table a b i) (sheet_table a b j)) pair.first.order (multiplied a pair.first.order pair.first.words.now pair.first.figures.now pair.second.words.now pair.second.figures.now) is.order (ap₂ (product a.ring pair.first.order) one two ∙ ap (λ n. product a.ring n (sheet_table a b i) (sheet_table a b j)) is.order) c.product_length-size.result c.product_length-size.ensures.size);
-      room = making_room a b sound _ _ _ _ split (pair_guard a b i j) (pair_granted a b i j sound found.0.there found.1.there found.2) (product a.ring (order_of b) (sheet_table a b i) (sheet_table a b j)) pair.first.order (multiplied a pair.first.order pair.first.words.now pair.first.figures.now pair.second.words.now pair.second.figures.now) is.order (ap₂ (product a.ring pair.first.order) one two ∙ ap (λ n. product a.ring n (sheet_table a b i) (sheet_table a b j)) is.order) c.product_length-size.result c.product_length-size.ensures.size c.in_ok-check_room.ensures;
-      idle = c.product_length-size.ensures.idle;
-    }
+    let pair = c.pair_at-pair.ensures in
+    let made = pair_making a b c.args.first c.args.second _ _ found (record { used_is = used.front; free_is = used.back; whole = used.value; used_is' = used'.front; free_is' = used'.back; whole' = used'.value }) (product a.ring) _ _ _ _ _ c.product_length-size.result pair.order pair.first_words pair.first_figures pair.second_words pair.second_figures c.product_length-size.ensures.size in
+    record { arrays = making_arrays made; room = making_room made c.in_ok-check_room.ensures; idle = c.product_length-size.ensures.idle }
 
 pub overflow_add-end-2 : goal.overflow_add-end-2
 overflow_add-end-2 g c =
     let a = g.F.Arithmetic.figures in
     let b : Arrays g.row.F.Denot = record { header = c.args.header.now; index = c.args.index.now; figures = c.args.figures.now } in
-    let i = c.args.first in
-    let j = c.args.second in
     let found = c.in_ok-one.ensures in
-    let sound = found.0.sound in
     let used = c.split_at_mut-used.ensures in
     let used' = c.split_at_mut-used_figures.ensures in
-    let pair = c.pair_at-pair.result in
-    let is = c.pair_at-pair.ensures in
-    let split : Split b _ _ _ _ = record { used_is = used.front; free_is = used.back; whole = used.value; used_is' = used'.front; free_is' = used'.back; whole' = used'.value } in
-    let one = used_table a b i c.in_ok-one.one found.0 _ _ used.front used'.front pair.first.words.now pair.first.figures.now is.first_words is.first_figures in
-    let two = used_table a b j c.in_ok-one.two found.1 _ _ used.front used'.front pair.second.words.now pair.second.figures.now is.second_words is.second_figures in
-    omega (arith, making_end a b sound _ _ _ _ split (pair_guard a b i j) (pair_granted a b i j sound found.0.there found.1.there found.2) (product a.ring (order_of b) (sheet_table a b i) (sheet_table a b j)) pair.first.order (multiplied a pair.first.order pair.first.words.now pair.first.figures.now pair.second.words.now pair.second.figures.now) is.order (ap₂ (product a.ring pair.first.order) one two ∙ ap (λ n. product a.ring n (sheet_table a b i) (sheet_table a b j)) is.order) c.product_length-size.result c.product_length-size.ensures.size c.in_ok-check_room.ensures)
+    let pair = c.pair_at-pair.ensures in
+    let made = pair_making a b c.args.first c.args.second _ _ found (record { used_is = used.front; free_is = used.back; whole = used.value; used_is' = used'.front; free_is' = used'.back; whole' = used'.value }) (product a.ring) _ _ _ _ _ c.product_length-size.result pair.order pair.first_words pair.first_figures pair.second_words pair.second_figures c.product_length-size.ensures.size in
+    omega (arith, making_end made c.in_ok-check_room.ensures)
 
 pub enter_sheet-requires : goal.enter_sheet-requires
 enter_sheet-requires g c =
     let a = g.F.Arithmetic.figures in
     let b : Arrays g.row.F.Denot = record { header = c.args.header.now; index = c.args.index.now; figures = c.args.figures.now } in
-    let i = c.args.first in
-    let j = c.args.second in
     let found = c.in_ok-one.ensures in
-    let sound = found.0.sound in
     let used = c.split_at_mut-used.ensures in
     let used' = c.split_at_mut-used_figures.ensures in
-    let pair = c.pair_at-pair.result in
-    let is = c.pair_at-pair.ensures in
-    let split : Split b _ _ _ _ = record { used_is = used.front; free_is = used.back; whole = used.value; used_is' = used'.front; free_is' = used'.back; whole' = used'.value } in
-    let one = used_table a b i c.in_ok-one.one found.0 _ _ used.front used'.front pair.first.words.now pair.first.figures.now is.first_words is.first_figures in
-    let two = used_table a b j c.in_ok-one.two found.1 _ _ used.front used'.front pair.second.words.now pair.second.figures.now is.second_words is.second_figures in
-    (sound.words, (found.2, making_end a b sound _ _ _ _ split (pair_guard a b i j) (pair_granted a b i j sound found.0.there found.1.there found.2) (product a.ring (order_of b) (sheet_table a b i) (sheet_table a b j)) pair.first.order (multiplied a pair.first.order pair.first.words.now pair.first.figures.now pair.second.words.now pair.second.figures.now) is.order (ap₂ (product a.ring pair.first.order) one two ∙ ap (λ n. product a.ring n (sheet_table a b i) (sheet_table a b j)) is.order) c.product_length-size.result c.product_length-size.ensures.size c.in_ok-check_room.ensures))
+    let pair = c.pair_at-pair.ensures in
+    let made = pair_making a b c.args.first c.args.second _ _ found (record { used_is = used.front; free_is = used.back; whole = used.value; used_is' = used'.front; free_is' = used'.back; whole' = used'.value }) (product a.ring) _ _ _ _ _ c.product_length-size.result pair.order pair.first_words pair.first_figures pair.second_words pair.second_figures c.product_length-size.ensures.size in
+    (found.0.sound.words, (found.2, making_end made c.in_ok-check_room.ensures))
 
 pub returns : goal.returns
 returns g c =
     let a = g.F.Arithmetic.figures in
     let b : Arrays g.row.F.Denot = record { header = c.args.header.now; index = c.args.index.now; figures = c.args.figures.now } in
-    let i = c.args.first in
-    let j = c.args.second in
     let found = c.in_ok-one.ensures in
-    let sound = found.0.sound in
     let used = c.split_at_mut-used.ensures in
     let used' = c.split_at_mut-used_figures.ensures in
-    let pair = c.pair_at-pair.result in
-    let is = c.pair_at-pair.ensures in
-    let split : Split b _ _ _ _ = record { used_is = used.front; free_is = used.back; whole = used.value; used_is' = used'.front; free_is' = used'.back; whole' = used'.value } in
-    let one = used_table a b i c.in_ok-one.one found.0 _ _ used.front used'.front pair.first.words.now pair.first.figures.now is.first_words is.first_figures in
-    let two = used_table a b j c.in_ok-one.two found.1 _ _ used.front used'.front pair.second.words.now pair.second.figures.now is.second_words is.second_figures in
-    let done = making_done a b sound _ _ _ _ split (pair_guard a b i j) (pair_granted a b i j sound found.0.there found.1.there found.2) (product a.ring (order_of b) (sheet_table a b i) (sheet_table a b j)) pair.first.order (multiplied a pair.first.order pair.first.words.now pair.first.figures.now pair.second.words.now pair.second.figures.now) is.order (ap₂ (product a.ring pair.first.order) one two ∙ ap (λ n. product a.ring n (sheet_table a b i) (sheet_table a b j)) is.order) c.product_length-size.result c.product_length-size.ensures.size c.in_ok-check_room.ensures c.enter_sheet.new.header c.write_product.new.index c.write_product.new.figures c.write_product.ensures c.enter_sheet.ensures.words in
+    let pair = c.pair_at-pair.ensures in
+    let made = pair_making a b c.args.first c.args.second _ _ found (record { used_is = used.front; free_is = used.back; whole = used.value; used_is' = used'.front; free_is' = used'.back; whole' = used'.value }) (product a.ring) _ _ _ _ _ c.product_length-size.result pair.order pair.first_words pair.first_figures pair.second_words pair.second_figures c.product_length-size.ensures.size in
+    let done = making_done made c.in_ok-check_room.ensures c.enter_sheet.new.header c.write_product.new.index c.write_product.new.figures c.write_product.ensures c.enter_sheet.ensures.words in
     (done.0, (c.enter_sheet.ensures.number, done.1))

@@ -2,11 +2,11 @@ use Rattle.std.proofs.Common.{◌+◌, [], ◌∷◌, ◌++◌, sym, refl, arith
 use Rattle.matrix.specs.Tables.{unit_table}
 use Rattle.sheet.proofs.Diagonals.{unit_length}
 use Rattle.book.specs.Book.{Arrays, order_of, sheets_of}
-use Rattle.book.specs.Lines.{Granted, guard, full}
+use Rattle.book.specs.Lines.{guard, full}
 use Rattle.book.proofs.Passing.{guard_passes, granted_both}
 use Rattle.book.proofs.Ends.{end_within, few_from}
 use Rattle.book.proofs.Starts.{few}
-use Rattle.book.proofs.Rooms.{Split, free_paired, free_small, making_sent, making_room, making_end, making_done}
+use Rattle.book.proofs.Rooms.{Split, Making, making_arrays, making_sent, making_room, making_end, making_done}
 use Rattle.book.proofs.units.unit.Goals as goal
 
 pub bounds-header-sheets : goal.bounds-header-sheets
@@ -27,8 +27,15 @@ returns-in_err-check_room g c =
     let free = c.split_at_mut-free.ensures in
     let free' = c.split_at_mut-free_figures.ensures in
     let split : Split b _ _ _ _ = record { used_is = free.front; free_is = free.back; whole = free.value; used_is' = free'.front; free_is' = free'.back; whole' = free'.value } in
-    let pass : Granted (guard a b ++ (full (sheets_of b) ∷ [])) = granted_both (guard a b) (full (sheets_of b) ∷ []) (guard_passes b a sound) (c.in_ok-check_full.ensures, tt) in
-    let p = making_sent a b sound _ _ _ _ split (guard a b ++ (full (sheets_of b) ∷ [])) pass (unit_table a.ring) (order_of b) _ refl refl (order_of b + 1) (sym (unit_length a.ring (order_of b))) c.from_residual-in_err-check_room.result c.in_err-check_room.field-0.0 c.from_residual-in_err-check_room.ensures.1 c.in_err-check_room.ensures in
+    let made : Making a b (guard a b ++ (full (sheets_of b) ∷ [])) (unit_table a.ring) _ _ _ _ (order_of b) (unit_table a.ring) (order_of b + 1) = record {
+      sound = sound;
+      split = split;
+      pass = granted_both (guard a b) (full (sheets_of b) ∷ []) (guard_passes b a sound) (c.in_ok-check_full.ensures, tt);
+      order = refl;
+      same = refl;
+      size_is = sym (unit_length a.ring (order_of b));
+    } in
+    let p = making_sent made c.from_residual-in_err-check_room.result c.in_err-check_room.field-0.0 c.from_residual-in_err-check_room.ensures.1 c.in_err-check_room.ensures in
     rw p.1 p.2
 
 pub write_unit-requires : goal.write_unit-requires
@@ -39,9 +46,17 @@ write_unit-requires g c =
     let free = c.split_at_mut-free.ensures in
     let free' = c.split_at_mut-free_figures.ensures in
     let split : Split b _ _ _ _ = record { used_is = free.front; free_is = free.back; whole = free.value; used_is' = free'.front; free_is' = free'.back; whole' = free'.value } in
-    let pass : Granted (guard a b ++ (full (sheets_of b) ∷ [])) = granted_both (guard a b) (full (sheets_of b) ∷ []) (guard_passes b a sound) (c.in_ok-check_full.ensures, tt) in
-    let fits = making_room a b sound _ _ _ _ split (guard a b ++ (full (sheets_of b) ∷ [])) pass (unit_table a.ring) (order_of b) _ refl refl (order_of b + 1) (sym (unit_length a.ring (order_of b))) c.in_ok-check_room.ensures in
-    (free_paired a b sound _ _ _ _ split (guard a b ++ (full (sheets_of b) ∷ [])) pass (unit_table a.ring) (order_of b) _ refl refl (order_of b + 1) (sym (unit_length a.ring (order_of b))), (free_small a b sound _ _ _ _ split (guard a b ++ (full (sheets_of b) ∷ [])) pass (unit_table a.ring) (order_of b) _ refl refl (order_of b + 1) (sym (unit_length a.ring (order_of b))), omega (arith, fits, unit_length a.ring (order_of b))))
+    let made : Making a b (guard a b ++ (full (sheets_of b) ∷ [])) (unit_table a.ring) _ _ _ _ (order_of b) (unit_table a.ring) (order_of b + 1) = record {
+      sound = sound;
+      split = split;
+      pass = granted_both (guard a b) (full (sheets_of b) ∷ []) (guard_passes b a sound) (c.in_ok-check_full.ensures, tt);
+      order = refl;
+      same = refl;
+      size_is = sym (unit_length a.ring (order_of b));
+    } in
+    let arrays = making_arrays made in
+    let fits = making_room made c.in_ok-check_room.ensures in
+    (arrays.0, (arrays.1, omega (arith, fits, unit_length a.ring (order_of b))))
 
 pub enter_sheet-requires : goal.enter_sheet-requires
 enter_sheet-requires g c =
@@ -51,8 +66,15 @@ enter_sheet-requires g c =
     let free = c.split_at_mut-free.ensures in
     let free' = c.split_at_mut-free_figures.ensures in
     let split : Split b _ _ _ _ = record { used_is = free.front; free_is = free.back; whole = free.value; used_is' = free'.front; free_is' = free'.back; whole' = free'.value } in
-    let pass : Granted (guard a b ++ (full (sheets_of b) ∷ [])) = granted_both (guard a b) (full (sheets_of b) ∷ []) (guard_passes b a sound) (c.in_ok-check_full.ensures, tt) in
-    (sound.words, (few_from (sheets_of b) (few _ _ sound.header_rules) c.in_ok-check_full.ensures, making_end a b sound _ _ _ _ split (guard a b ++ (full (sheets_of b) ∷ [])) pass (unit_table a.ring) (order_of b) _ refl refl (order_of b + 1) (sym (unit_length a.ring (order_of b))) c.in_ok-check_room.ensures))
+    let made : Making a b (guard a b ++ (full (sheets_of b) ∷ [])) (unit_table a.ring) _ _ _ _ (order_of b) (unit_table a.ring) (order_of b + 1) = record {
+      sound = sound;
+      split = split;
+      pass = granted_both (guard a b) (full (sheets_of b) ∷ []) (guard_passes b a sound) (c.in_ok-check_full.ensures, tt);
+      order = refl;
+      same = refl;
+      size_is = sym (unit_length a.ring (order_of b));
+    } in
+    (sound.words, (few_from (sheets_of b) (few _ _ sound.header_rules) c.in_ok-check_full.ensures, making_end made c.in_ok-check_room.ensures))
 
 pub returns : goal.returns
 returns g c =
@@ -62,6 +84,13 @@ returns g c =
     let free = c.split_at_mut-free.ensures in
     let free' = c.split_at_mut-free_figures.ensures in
     let split : Split b _ _ _ _ = record { used_is = free.front; free_is = free.back; whole = free.value; used_is' = free'.front; free_is' = free'.back; whole' = free'.value } in
-    let pass : Granted (guard a b ++ (full (sheets_of b) ∷ [])) = granted_both (guard a b) (full (sheets_of b) ∷ []) (guard_passes b a sound) (c.in_ok-check_full.ensures, tt) in
-    let done = making_done a b sound _ _ _ _ split (guard a b ++ (full (sheets_of b) ∷ [])) pass (unit_table a.ring) (order_of b) _ refl refl (order_of b + 1) (sym (unit_length a.ring (order_of b))) c.in_ok-check_room.ensures c.enter_sheet.new.header c.write_unit.new.index c.write_unit.new.figures c.write_unit.ensures c.enter_sheet.ensures.words in
+    let made : Making a b (guard a b ++ (full (sheets_of b) ∷ [])) (unit_table a.ring) _ _ _ _ (order_of b) (unit_table a.ring) (order_of b + 1) = record {
+      sound = sound;
+      split = split;
+      pass = granted_both (guard a b) (full (sheets_of b) ∷ []) (guard_passes b a sound) (c.in_ok-check_full.ensures, tt);
+      order = refl;
+      same = refl;
+      size_is = sym (unit_length a.ring (order_of b));
+    } in
+    let done = making_done made c.in_ok-check_room.ensures c.enter_sheet.new.header c.write_unit.new.index c.write_unit.new.figures c.write_unit.ensures c.enter_sheet.ensures.words in
     (done.0, (c.enter_sheet.ensures.number, done.1))
