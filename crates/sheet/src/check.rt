@@ -6,6 +6,8 @@ ghost use Rattle.sheet.specs.Checking.{Checks};
 use crate::Refusal;
 use arithmetic::Arithmetic;
 
+// What is not checked yet is no `Sheet`: these functions take its order, words and figures one by one.
+
 // Whether position p, the start of a row or the end of the last, keeps its rule.
 fn head_keeps<F: Arithmetic>(order: usize, words: &[u32], figures: &[F], p: usize) -> bool
     requires { (p ≤ order) × ((order < length words.now) × (length figures.now ≡ length words.now)) }

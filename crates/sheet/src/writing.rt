@@ -1,4 +1,5 @@
-// What every sheet is written by, at the start of the slices that it is to lie in.
+// What every sheet is written by, at the start of the slices that it is to lie in. Index and figures are lent side by
+// side: a struct of two `&mut` would have to say in each contract that each is the same array still.
 ghost use Rattle.std.specs.Prelude.{◌≡◌, ◌+◌, ◌<◌, ◌≤◌, not, ◌&&◌, length, if◌then◌else◌, ◌==◌, ◌≢◌};
 ghost use Rattle.sheet.specs.Writing.{RowStarted, EntryWritten};
 
