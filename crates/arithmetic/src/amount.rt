@@ -11,7 +11,7 @@ pub struct Amount {
     value: u32,
 }
 
-// Made and read by name: `From` in both directions would read no plainer.
+// `From` both ways would be these two functions, without names that say which way they go.
 impl Amount {
     pub fn new(value: u32) -> Self
         ensures { amount_figures.meaning result ≡ quantity value }

@@ -25,7 +25,7 @@ pub trait Arithmetic: Copy {
 
     const COMMUTES: bool;
 
-    // The statement, with what it promises.
+    // A constant has no contract: this function says it, and promises the law where it is yes.
     fn states_commuting() -> bool
         ensures stated { result ≡ COMMUTES }
         ensures kept { result ≡ true → Commutes figures.ring }

@@ -8,7 +8,8 @@ use std::fmt;
 // The longest wait, in days.
 const LONGEST: u32 = 4_294_967_294;
 
-// A wait of whole days, or never. A stored number above the longest wait means never.
+// A wait of whole days, or never. A stored number above the longest wait means never: one number for both, so that the
+// shorter wait is the `min` and a sum stops at never by itself. Its maker and its reader speak of an Option.
 #[derive(Clone, Copy, Debug, PartialEq, Eq)]
 pub struct Wait {
     stored: u32,

@@ -1,4 +1,4 @@
-// A call of a clerk's list, with its arguments.
+// A call of a clerk's list, with its arguments. The lists of a load are lent one by one, as `load` is lent them.
 #[derive(Clone, Copy)]
 pub enum Call<'a, F> {
     Unit,

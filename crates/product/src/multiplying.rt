@@ -1,6 +1,6 @@
 ghost use Rattle.std.specs.Prelude.{◌≡◌, ◌<◌, ◌≤◌, length};
 ghost use Rattle.sheet.specs.Packed.{row_columns, packed_length};
-ghost use Rattle.sheet.specs.Writing.{Written};
+ghost use Rattle.sheet.specs.Writing.{SideBySide, Written};
 ghost use Rattle.product.specs.Meetings.{Idle, pair_product};
 
 use crate::Meetings;
@@ -43,7 +43,7 @@ pub fn write_product<F: Arithmetic>(
     figures: &mut [F],
     meetings: &mut Meetings,
 )
-    requires arrays { (length figures.old ≡ length index.old) × (length index.old ≤ 65536) }
+    requires arrays { SideBySide index.old figures.old }
     requires room { packed_length F.Arithmetic.figures.ring pair.now.first.order (pair_product pair.now) ≤ length index.old }
     requires idle { Idle pair.now.first.order meetings.old }
     ensures { Written F.Arithmetic.figures pair.now.first.order (pair_product pair.now) index.old figures.old index.new figures.new }

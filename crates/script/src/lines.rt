@@ -75,7 +75,7 @@ impl Line<'_> {
         self.number_up_to(LARGEST_CAPACITY, place, CAPACITY)
     }
 
-    // A reader that is passed in is not proved where what it reads is a type parameter, so the reading stands here twice.
+    // As `number_up_to`: one function with the reader as a parameter is not proved where what is read is a type parameter.
     pub(crate) fn figure_at<F: Figure>(&self, place: usize) -> Result<F, Fault> {
         let word = self.word_at(place, F::EXPECTED)?;
         F::read(word).ok_or_else(|| self.fault(F::EXPECTED, word))

@@ -1,5 +1,5 @@
 -- What a new sheet leaves in the arrays that it was written to.
-use Rattle.std.specs.Prelude.{◌≡◌, ℕ, ◌+◌, ◌-◌, List, ◌++◌, length, take, drop, ◌≢◌, slice_set}
+use Rattle.std.specs.Prelude.{◌≡◌, ℕ, ◌+◌, ◌-◌, ◌≤◌, List, ◌++◌, length, take, drop, ◌≢◌, slice_set}
 use Rattle.arithmetic.specs.Semiring.{Figures, meanings}
 use Rattle.matrix.specs.Tables.{Table}
 use Rattle.sheet.specs.Packed.{packed_index, packed_figures}
@@ -7,6 +7,10 @@ use Rattle.sheet.specs.Packed.{packed_index, packed_figures}
 -- the places from `from` up to `to`
 abbrev pub part : {A : Type 0} → List A → ℕ → ℕ → List A
 part xs from to = take (to - from) (drop from xs)
+
+-- as many figures as index words, and no more than a book can have
+abbrev pub SideBySide : {S : Type 0} → List ℕ → List S → Type 0
+SideBySide ws fs = (length fs ≡ length ws) × (length ws ≤ 65536)
 
 -- xs over the first places of d; the other places are as they were
 abbrev pub overlaid : {A : Type 0} → List A → List A → List A

@@ -5,8 +5,8 @@ ghost use Rattle.sheet.specs.Cursors.{spot_of, column_of};
 use crate::Sheet;
 use arithmetic::Arithmetic;
 
-// Where the cell of row i and column k stands, or the place `order`, whose figure is zero, if it is not stored. The
-// place p is the first of the row whose column is not below k.
+// Where the cell of row i and column k stands, or the place `order`, whose figure is zero, if it is not stored, so that no
+// case is needed for it. This asks of the words alone, and serves words that are no sound sheet's too. The place p is the first of the row whose column is not below k.
 pub fn spot(order: usize, words: &[u32], i: usize, k: usize, p: usize) -> usize
     requires { (i < order) × ((order < length words.now) × (slice_index words.now (i + 1) ≤ length words.now)) }
     ensures { result ≡ spot_of words.now order i k p }
@@ -41,7 +41,7 @@ pub fn column_at(order: usize, words: &[u32], i: usize, p: usize) -> usize
     }
 }
 
-// The same of a sheet, whose rows lie within it.
+// The same of a sheet, of which nothing has to be asked: its rows lie within it.
 impl<F: Arithmetic> Sheet<'_, F> {
     pub fn spot(&self, i: usize, k: usize, p: usize) -> usize
         requires { i < self.now.order }

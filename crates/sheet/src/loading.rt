@@ -1,6 +1,6 @@
 ghost use Rattle.std.specs.Prelude.{◌≡◌, ℕ, ◌<◌, ◌≤◌, length, Decides, slice_index};
 ghost use Rattle.sheet.specs.Packed.{packed_length};
-ghost use Rattle.sheet.specs.Writing.{Written};
+ghost use Rattle.sheet.specs.Writing.{SideBySide, Written};
 ghost use Rattle.sheet.specs.Loading.{entries, loaded, Placed, EntriesChecked};
 
 use crate::Refusal;
@@ -74,7 +74,7 @@ impl<F: Arithmetic> Entries<'_, F> {
     // Writes the packed form of the table.
     pub fn write(&self, order: usize, index: &mut [u32], figures: &mut [F])
         requires order { (1 ≤ order) × (order ≤ 1024) }
-        requires arrays { (length figures.old ≡ length index.old) × (length index.old ≤ 65536) }
+        requires arrays { SideBySide index.old figures.old }
         requires room { packed_length F.Arithmetic.figures.ring order (loaded F.Arithmetic.figures.ring (entries F.Arithmetic.figures self.now.rows.now self.now.columns.now self.now.figures.now)) ≤ length index.old }
         requires placed { (k : ℕ) → k < length self.now.rows.now → Placed order self.now.rows.now self.now.columns.now k }
         ensures { Written F.Arithmetic.figures order (loaded F.Arithmetic.figures.ring (entries F.Arithmetic.figures self.now.rows.now self.now.columns.now self.now.figures.now)) index.old figures.old index.new figures.new }

@@ -4,7 +4,7 @@ use crate::Refusal;
 use arithmetic::Arithmetic;
 
 // The dot product: each figure of the first vector times its partner in the second, summed. Two empty
-// vectors give zero.
+// vectors give zero. The loop goes over the first vector with its index, as weighing is told.
 pub fn weigh<F: Arithmetic>(first: &[F], second: &[F]) -> Result<F, Refusal>
     ensures { Weighs F.Arithmetic.figures first.now second.now result }
 {

@@ -1,7 +1,7 @@
 // What every sheet is written by, at the start of the slices that it is to lie in. Index and figures are lent side by
 // side: a struct of two `&mut` would have to say in each contract that each is the same array still.
 ghost use Rattle.std.specs.Prelude.{◌≡◌, ◌+◌, ◌<◌, ◌≤◌, not, ◌&&◌, length, if◌then◌else◌, ◌==◌, ◌≢◌};
-ghost use Rattle.sheet.specs.Writing.{RowStarted, EntryWritten};
+ghost use Rattle.sheet.specs.Writing.{SideBySide, RowStarted, EntryWritten};
 
 use arithmetic::Arithmetic;
 
@@ -36,7 +36,8 @@ pub fn write_entry<F: Arithmetic>(
     column: u32,
     figure: F,
 ) -> usize
-    requires sizes { (length figures.old ≡ length index.old) × ((length index.old ≤ 65536) × (row < length index.old)) }
+    requires arrays { SideBySide index.old figures.old }
+    requires row { row < length index.old }
     requires room { (column ≢ row) → (F.Arithmetic.figures.meaning figure ≢ F.Arithmetic.figures.ring.zero) → at < length index.old }
     ensures { EntryWritten F.Arithmetic.figures row column figure at index.old figures.old index.new figures.new result }
 {

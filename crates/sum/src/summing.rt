@@ -1,6 +1,6 @@
 ghost use Rattle.std.specs.Prelude.{◌≡◌, ◌≤◌, length};
 ghost use Rattle.sheet.specs.Packed.{packed_length};
-ghost use Rattle.sheet.specs.Writing.{Written};
+ghost use Rattle.sheet.specs.Writing.{SideBySide, Written};
 ghost use Rattle.sum.specs.Merging.{pair_sum};
 
 use crate::merge::Merge;
@@ -21,10 +21,11 @@ pub fn added_length<F: Arithmetic>(pair: &Pair<'_, F>) -> usize
     length
 }
 
-// Writes the packed form of the sum of two sheets. The product has the same two walks over cells of its own. A trait for
-// both was tried: the type of a ghost member cannot name the figures of the arithmetic that the trait is over.
+// Writes the packed form of the sum of two sheets. `product` goes through its cells in the same two ways, for the length
+// and to write them. One trait for both was tried: its ghost member would have to name the figures of `F`, and the type of
+// a ghost member cannot.
 pub fn write_added<F: Arithmetic>(pair: &Pair<'_, F>, index: &mut [u32], figures: &mut [F])
-    requires arrays { (length figures.old ≡ length index.old) × (length index.old ≤ 65536) }
+    requires arrays { SideBySide index.old figures.old }
     requires room { packed_length F.Arithmetic.figures.ring pair.now.first.order (pair_sum pair.now) ≤ length index.old }
     ensures { Written F.Arithmetic.figures pair.now.first.order (pair_sum pair.now) index.old figures.old index.new figures.new }
 {

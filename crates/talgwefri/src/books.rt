@@ -28,6 +28,8 @@ pub(crate) fn weighed<F: Arithmetic>(lists: &Lists<F>) -> Result<F, Refusal>
     weigh(lists.first.as_slice(), lists.second.as_slice())
 }
 
+// Each call of the library is a method, under the contract that it has there: so the two parts of a row, and the two
+// workings, are methods of their own.
 impl<F: Arithmetic> Book<F> {
     // Three arrays without a place, where no book can be.
     pub(crate) fn without_arrays(heap: Global) -> Book<F> {
@@ -84,7 +86,7 @@ impl<F: Arithmetic> Book<F> {
     pub(crate) fn unit(&mut self) -> Result<usize, Refusal>
         ensures { Outcome F.Arithmetic.figures (held self.old) Unit' result (held self.new) }
     {
-        // Passed by its name, a function of another crate is not proved: hence a closure.
+        // A closure: the check does not find the contract of a function of another crate that is passed by its name.
         self.lend(|header, index, figures| book::unit(header, index, figures))
     }
 

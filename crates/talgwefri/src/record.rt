@@ -45,7 +45,7 @@ impl Record {
         Ok(())
     }
 
-    // The arms look alike, and each calls at an arithmetic of its own.
+    // The arms look alike, and each calls at an arithmetic of its own, so no pattern joins them.
     fn carry_out_part(&mut self, part: &Part) -> Result<(), AllocError> {
         match part {
             Part::Amounts(commands) => self.carry_out(commands.as_slice()),

@@ -7,7 +7,7 @@ ghost use Rattle.arithmetic.specs.Semiring.{meanings};
 ghost use Rattle.matrix.specs.Tables.{flipped};
 ghost use Rattle.sheet.specs.Packed.{row_start, row_columns};
 ghost use Rattle.sheet.specs.Sheets.{table_of};
-ghost use Rattle.sheet.specs.Writing.{Written};
+ghost use Rattle.sheet.specs.Writing.{SideBySide, Written};
 ghost use Rattle.transpose.specs.Flipping.{hits, HeadLaid};
 
 use arithmetic::Arithmetic;
@@ -34,7 +34,7 @@ fn write_head<F: Arithmetic>(
     next: &mut [u32; 1024],
 )
     requires small { sheet.now.order ≤ 1024 }
-    requires arrays { (length figures.old ≡ length index.old) × (length index.old ≤ 65536) }
+    requires arrays { SideBySide index.old figures.old }
     requires room { length sheet.now.words.now ≤ length index.old }
     requires counts { (c : ℕ) → c < sheet.now.order → slice_index next.old c ≡ length (row_columns F.Arithmetic.figures.ring sheet.now.order (flipped (table_of sheet.now)) c) }
     ensures head { HeadLaid F.Arithmetic.figures sheet.now.order (flipped (table_of sheet.now)) index.old figures.old index.new figures.new }
@@ -61,7 +61,7 @@ fn move_cell<F: Arithmetic>(
     figure: F,
 )
     requires cell { (column < 1024) × (row < 1024) }
-    requires arrays { (length figures.old ≡ length index.old) × (length index.old ≤ 65536) }
+    requires arrays { SideBySide index.old figures.old }
     requires free { slice_index next.old column < length index.old }
     ensures word { index.new ≡ slice_set index.old (slice_index next.old column) row }
     ensures figure { figures.new ≡ slice_set figures.old (slice_index next.old column) figure }
@@ -77,7 +77,7 @@ fn move_cell<F: Arithmetic>(
 // the new rows come out sorted.
 pub fn write_flipped<F: Arithmetic>(sheet: &Sheet<'_, F>, index: &mut [u32], figures: &mut [F])
     requires small { (sheet.now.order ≤ 1024) × (length sheet.now.words.now ≤ 65536) }
-    requires arrays { (length figures.old ≡ length index.old) × (length index.old ≤ 65536) }
+    requires arrays { SideBySide index.old figures.old }
     requires room { length sheet.now.words.now ≤ length index.old }
     ensures { Written F.Arithmetic.figures sheet.now.order (flipped (table_of sheet.now)) index.old figures.old index.new figures.new }
 {

@@ -54,9 +54,8 @@ write_unit-requires g c =
       same = refl;
       size_is = sym (unit_length a.ring (order_of b));
     } in
-    let arrays = making_arrays made in
     let fits = making_room made c.in_ok-check_room.ensures in
-    (arrays.0, (arrays.1, omega (arith, fits, unit_length a.ring (order_of b))))
+    record { arrays = making_arrays made; room = omega (arith, fits, unit_length a.ring (order_of b)) }
 
 pub enter_sheet-requires : goal.enter_sheet-requires
 enter_sheet-requires g c =

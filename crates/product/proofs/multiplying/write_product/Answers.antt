@@ -16,11 +16,11 @@ loop-row-init g c =
     let pair = c.args.pair.now in
     (laying_start g.F.Arithmetic.figures pair.first.order (pair_product pair) c.args.index.now c.args.figures.now c.requires.room (omega arith) c.start_row.new.index c.start_row.new.figures c.start_row.ensures, c.requires.idle)
 
-pub write_entry-at-requires-clause-sizes : goal.write_entry-at-requires-clause-sizes
-write_entry-at-requires-clause-sizes g c =
+pub write_entry-at-requires-clause-row : goal.write_entry-at-requires-clause-row
+write_entry-at-requires-clause-row g c =
     let pair = c.args.pair.now in
     let head = heads_fit pair c.args.index.now c.args.figures.now c.requires.room (omega arith) in
-    (omega arith, (omega arith, omega arith))
+    omega arith
 
 pub write_entry-at-requires-clause-room : goal.write_entry-at-requires-clause-room
 write_entry-at-requires-clause-room g c = λ off some.

@@ -33,7 +33,8 @@ write_entry-at-requires g c =
     let head = head_room a pair.first.order t c.args.index.now c.args.figures.now c.requires.room (omega arith) in
     let next = rw (inv.pair, inv.row, c.in-Some.is) at c.next_cell.ensures.next in
     record {
-      sizes = (omega arith, (omega arith, omega arith));
+      arrays = (omega arith, omega arith);
+      row = omega arith;
       room = λ off some. let low = written_room a pair.first.order t c.loop-row.row c.loop-cell.merge.from (omega arith) _ _ c.args.index.now c.args.figures.now c.requires.room (omega arith) c.loop-cell.index c.loop-cell.figures c.loop-cell.at inv.laying c.in-Some.cell next off some in omega arith;
     }
 

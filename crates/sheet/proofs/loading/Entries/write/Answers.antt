@@ -24,7 +24,8 @@ write_entry-at-requires g c =
     let e = c.args.self.now in
     let here = c.loop-index-test.ensures.0 refl in
     record {
-      sizes = (omega arith, (omega arith, omega (arith, here.1, head_room a c.args.order (listed a e.rows.now e.columns.now e.figures.now) c.args.index.now c.args.figures.now c.requires.room (omega arith))));
+      arrays = (omega arith, omega arith);
+      row = omega (arith, here.1, head_room a c.args.order (listed a e.rows.now e.columns.now e.figures.now) c.args.index.now c.args.figures.now c.requires.room (omega arith));
       room = λ off some. let low = entry_room a c.args.order e.rows.now e.columns.now e.figures.now e.a_column_each e.a_figure_each c.requires.placed c.args.index.now c.args.figures.now c.requires.room (omega arith) c.loop-index.k c.loop-row.row here.0 here.1 (omega arith) c.loop-index.index c.loop-index.figures c.loop-index.at c.loop-index.invariant _ (get_or_default e.figures.now c.loop-index.k c.index-self-k.result _ (omega (arith, here.0))) (λ z. off (z ∙ sym here.1)) some in omega arith;
     }
 
