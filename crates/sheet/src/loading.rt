@@ -35,7 +35,8 @@ pub fn check_entries(order: usize, rows: &[u32], columns: &[u32]) -> Result<(), 
     Ok(())
 }
 
-// The entries of a table, as three lists of one length: their rows, their columns and their figures.
+// The entries of a table, as three lists of one length: their rows, their columns and their figures. Whether they are
+// placed depends on an order, which a list has not, so it is asked where it is needed.
 #[derive(Drop)]
 pub struct Entries<'a, F> {
     pub rows: &'a [u32],
@@ -81,6 +82,7 @@ impl<F: Arithmetic> Entries<'_, F> {
     {
         let mut at = order + 1;
         start_row(index, figures, 0, at);
+        // The entries come row by row: k goes through them once, while the rows go by.
         let mut k = 0;
         for row in 0..order {
             while self.is_in_row(k, row) {
