@@ -6,13 +6,10 @@ use Rattle.arithmetic.specs.Semiring.{Semiring}
 use Rattle.sheet.specs.Packed.{Sound, table}
 use Rattle.sheet.specs.Writing.{part}
 use Rattle.sheet.proofs.Unique.{found_first}
-use Rattle.sheet.proofs.Found.{row_within, sound_rises, columns_rise, not_found, table_off}
+use Rattle.sheet.proofs.Found.{row_within, columns_rise, not_found, table_off}
 
 module _ {F : Type 0} (s : Semiring F) (n : ℕ) (ws : List ℕ) (fs : List F) (sound : Sound s n ws fs) (i c : ℕ) (low : i < n) (off : c ≡ i → ⊥) where
-  pub row_ordered : get_or ws i 0 ≤ get_or ws (i + 1) 0
-  row_ordered = sound_rises s n ws fs sound i (i + 1) (omega arith) (omega arith)
-
-  pub row_end : get_or ws (i + 1) 0 ≤ length ws
+  row_end : get_or ws (i + 1) 0 ≤ length ws
   row_end = row_within s n ws fs sound (i + 1) (omega arith)
 
   long : length (part ws (get_or ws i 0) (get_or ws (i + 1) 0)) ≡ get_or ws (i + 1) 0 - get_or ws i 0

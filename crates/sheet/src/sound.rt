@@ -1,5 +1,5 @@
 // Sound sheets, in the slices of two arrays where they lie.
-ghost use Rattle.std.specs.Prelude.{◌≡◌, ◌<◌, ◌≤◌, length, slice_index_or};
+ghost use Rattle.std.specs.Prelude.{◌≡◌, ◌+◌, ◌^◌, ◌<◌, ◌≤◌, length, slice_index, slice_index_or};
 ghost use Rattle.arithmetic.specs.Semiring.{meanings};
 ghost use Rattle.sheet.specs.Packed.{Sound};
 
@@ -44,6 +44,19 @@ impl<F: Arithmetic> Sheet<'_, F> {
         self.figures[place]
     }
 
+    // Where the stored cells of row i begin off the diagonal, and one past their last.
+    pub fn row(&self, i: usize) -> (usize, usize)
+        requires { i < self.now.order }
+        ensures from { result.0 ≡ slice_index self.now.words.now i }
+        ensures to { result.1 ≡ slice_index self.now.words.now (i + 1) }
+        ensures past { self.now.order < result.0 }
+        ensures up { result.0 ≤ result.1 }
+        ensures within { result.1 ≤ length self.now.words.now }
+        ensures fits { result.1 < 2 ^ 32 }
+    {
+        (self.words[i] as usize, self.words[i + 1] as usize)
+    }
+
     // One cell: the figure on the diagonal, or the one that stands beside the column in its row, or zero where the row
     // does not store the column.
     pub fn cell(&self, row: usize, column: usize) -> F
@@ -53,8 +66,8 @@ impl<F: Arithmetic> Sheet<'_, F> {
         if row == column {
             return self.figures[row];
         }
-        let from = self.words[row] as usize;
-        let columns = &self.words[from..self.words[row + 1] as usize];
+        let (from, to) = self.row(row);
+        let columns = &self.words[from..to];
         match columns.binary_search(&(column as u32)) {
             Ok(place) => self.figures[from + place],
             Err(_) => F::zero(),
