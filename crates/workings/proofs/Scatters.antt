@@ -8,11 +8,10 @@ use Rattle.matrix.specs.Vectors.{Vector, row_worked, figure_at}
 use Rattle.matrix.proofs.Sums.{add-zero, sum_more, sum_change}
 use Rattle.sheet.specs.Packed.{Sound, found, table}
 use Rattle.workings.specs.Scattering.{off_cell, Grew}
-use Rattle.sheet.proofs.Found.{row_within, cell_at, found_here, found_past, found_once, found_none, off_diagonal, table_here, table_off}
+use Rattle.sheet.proofs.Found.{cell_at, found_here, found_past, found_once, found_none, off_diagonal, table_here, table_off}
 
 -- a walk along row i stands at position p; what is left of the row, times f, has still to be added to out
 pub record Scattered {F : Type 0} (s : Semiring F) (n : ℕ) (ws : List ℕ) (fs : List F) (i : ℕ) (f : F) (before out : List F) (p : ℕ) : Type 0 where
-  pub within : get_or ws (i + 1) 0 ≤ length ws
   pub columns : (q : ℕ) → get_or ws i 0 ≤ q → q < get_or ws (i + 1) 0 → get_or ws q 0 < n
   pub sums : (c : ℕ) → c < n → s.add (figure_at s out c) (s.mul f (found s ws fs c p (get_or ws (i + 1) 0 - p))) ≡ s.add (figure_at s before c) (s.mul f (off_cell s ws fs i c))
 
@@ -22,14 +21,12 @@ module _ {F : Type 0} (s : Semiring F) (n : ℕ) (ws : List ℕ) (fs : List F) (
 
   pub scatter_none : (out : List F) → Scattered s n ws fs i f out out (get_or ws i 0)
   scatter_none out = record {
-    within = row_within s n ws fs sound (i + 1) (omega arith);
     columns = λ q from to. (cell_at s n ws fs sound i low q from to).0;
     sums = λ c h. refl;
   }
 
   pub scatter_more : (before out : List F) (u : F) (p : ℕ) → n ≤ length out → get_or ws i 0 ≤ p → p < get_or ws (i + 1) 0 → u ≡ s.add (figure_at s out (get_or ws p 0)) (s.mul f (get_or fs p s.zero)) → Scattered s n ws fs i f before out p → Scattered s n ws fs i f before (set out (get_or ws p 0) u) (p + 1)
   scatter_more before out u p room from to e so_far = record {
-    within = so_far.within;
     columns = so_far.columns;
     sums = λ c h. ⊎_elim
         (λ (same : c ≡ get_or ws p 0).

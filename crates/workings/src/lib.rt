@@ -18,7 +18,8 @@ fn work_column<F: Arithmetic>(sheet: &Sheet<'_, F>, x: &[F], i: usize) -> F
     ensures { F.Arithmetic.figures.meaning result ≡ column_worked F.Arithmetic.figures.ring sheet.now.order (table_of sheet.now) (figure_at F.Arithmetic.figures.ring (meanings F.Arithmetic.figures x.now)) i }
 {
     let mut total = sheet.figures[i].multiply(x[i]);
-    for p in sheet.words[i] as usize..sheet.words[i + 1] as usize {
+    let (from, to) = sheet.row(i);
+    for p in from..to {
         total = total.add(sheet.figures[p].multiply(x[sheet.words[p] as usize]));
     }
     total
@@ -49,7 +50,8 @@ fn scatter_row<F: Arithmetic>(sheet: &Sheet<'_, F>, i: usize, factor: F, out: &m
     requires { (length out.old ≡ sheet.now.order) × (i < sheet.now.order) }
     ensures { Grew F.Arithmetic.figures.ring sheet.now.order (λ j. F.Arithmetic.figures.ring.mul (F.Arithmetic.figures.meaning factor) (off_cell F.Arithmetic.figures.ring sheet.now.words.now (meanings F.Arithmetic.figures sheet.now.figures.now) i j)) (meanings F.Arithmetic.figures out.old) (meanings F.Arithmetic.figures out.new) }
 {
-    for p in sheet.words[i] as usize..sheet.words[i + 1] as usize {
+    let (from, to) = sheet.row(i);
+    for p in from..to {
         let j = sheet.words[p] as usize;
         out[j] = out[j].add(factor.multiply(sheet.figures[p]));
     }

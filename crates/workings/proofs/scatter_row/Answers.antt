@@ -10,7 +10,7 @@ loop-p-init g c =
     let a = g.F.Arithmetic.figures in
     let sheet = c.args.sheet.now in
     let sound = sheet_sound sheet in
-    scatter_none _ _ _ _ sound c.args.i (omega arith) _ _
+    rw c.row-from.ensures.from (scatter_none _ _ _ _ sound c.args.i (omega arith) _ _)
 
 pub loop-p-preserved : goal.loop-p-preserved
 loop-p-preserved g c =

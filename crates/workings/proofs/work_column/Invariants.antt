@@ -1,4 +1,4 @@
-use Rattle.std.proofs.Common.{◌≡◌, ◌+◌, ◌≤◌, length, get_or}
+use Rattle.std.proofs.Common.{◌≡◌}
 use Rattle.arithmetic.specs.Semiring.{meanings}
 use Rattle.matrix.specs.Vectors.{column_worked, figure_at}
 use Rattle.sheet.specs.Packed.{table}
@@ -10,4 +10,4 @@ invariant-loop-p g l =
     let a = g.F.Arithmetic.figures in
     let fs = meanings a l.sheet.figures.now in
     let v = figure_at a.ring (meanings a l.x) in
-    (get_or l.sheet.words.now (l.i + 1) 0 ≤ length l.sheet.words.now) × (a.ring.add (a.meaning l.total) (rest a.ring l.sheet.order l.sheet.words.now fs v l.i l.p) ≡ column_worked a.ring l.sheet.order (table a.ring l.sheet.words.now fs) v l.i)
+    a.ring.add (a.meaning l.total) (rest a.ring l.sheet.order l.sheet.words.now fs v l.i l.p) ≡ column_worked a.ring l.sheet.order (table a.ring l.sheet.words.now fs) v l.i
