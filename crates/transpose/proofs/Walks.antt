@@ -5,7 +5,7 @@ use Rattle.std.proofs.lemmas.Bool.{cases_eq, eq-eqb, ne_eqb}
 use Rattle.arithmetic.specs.Semiring.{Figures, meanings}
 use Rattle.sheet.specs.Packed.{stored, columns_below, row_start, table}
 use Rattle.sheet.specs.Writing.{Written}
-use Rattle.sheet.proofs.Found.{row_past, row_within, cell_at}
+use Rattle.sheet.proofs.Found.{row_past, cell_at}
 use Rattle.sheet.proofs.Unique.{cell_figure, cell_stored}
 use Rattle.transpose.specs.Flipping.{hits, HeadLaid}
 use Rattle.transpose.proofs.Hits.{hits_more, hits_here, hits_rows, hits_all, stored_swap}
@@ -19,7 +19,6 @@ module _ {S : Type 0} (a : Figures S) (n : ℕ) (ws : List ℕ) (fs : List S) (d
     pub turned : Turned a n (flipped_table a ws fs) d e d' e' next
     pub next_long : length next ≡ 1024
     pub next_is : (c : ℕ) → c < n → get_or next c 0 ≡ row_start a.ring n (flipped_table a ws fs) c + hits ws c (n + 1) (q - (n + 1))
-    pub rows : (i : ℕ) → i ≤ n → get_or ws i 0 ≤ length ws
 
 module _ {S : Type 0} {a : Figures S} {n : ℕ} {ws : List ℕ} {fs : List S} {d : List ℕ} {e : List S} where
   pub walking_none : Flip a n ws fs d e → (d' : List ℕ) (e' : List S) (next : List ℕ) → HeadLaid a n (flipped_table a ws fs) d e d' e' → length next ≡ 1024 → ((c : ℕ) → c < n → get_or next c 0 ≡ row_start a.ring n (flipped_table a ws fs) c) → Walking a n ws fs d e (get_or ws 0 0) d' e' next
@@ -33,7 +32,6 @@ module _ {S : Type 0} {a : Figures S} {n : ℕ} {ws : List ℕ} {fs : List S} {d
         turned = turned_none a n flip.small (flipped_table a ws fs) d e (fits flip) flip.even d' e' next laid starts;
         next_long = next_long;
         next_is = λ c h. rw none (starts c h ∙ omega arith);
-        rows = row_within a.ring n ws (meanings a fs) sound;
       }
 
   module _ {q : ℕ} {d' : List ℕ} {e' : List S} {next : List ℕ} (w : Walking a n ws fs d e q d' e' next) (row : ℕ) (low : row < n) (from : get_or ws row 0 ≤ q) (to : q < get_or ws (row + 1) 0) where
@@ -63,7 +61,6 @@ module _ {S : Type 0} {a : Figures S} {n : ℕ} {ws : List ℕ} {fs : List S} {d
             turned = turned_more a n w.flip.small (flipped_table a ws fs) d e (fits w.flip) w.flip.even d' e' next w.turned row c low column_low cell_there place w.next_long y figure;
             next_long = length-set next c (get_or next c 0 + 1) ∙ w.next_long;
             next_is = λ k h. step k h ∙ ap (λ x. row_start a.ring n (flipped_table a ws fs) k + x) (sym (hits_more ws k (n + 1) q (omega arith)));
-            rows = w.rows;
           })
         where
           step : (k : ℕ) → k < n → get_or (set next c (get_or next c 0 + 1)) k 0 ≡ row_start a.ring n (flipped_table a ws fs) k + (hits ws k (n + 1) (q - (n + 1)) + cond (eqb (get_or ws q 0) k) 1 0)

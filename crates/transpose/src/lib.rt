@@ -84,7 +84,8 @@ pub fn write_flipped<F: Arithmetic>(sheet: &Sheet<'_, F>, index: &mut [u32], fig
     let mut next = count_columns(sheet);
     write_head(sheet, index, figures, &mut next);
     for row in 0..sheet.order {
-        for q in sheet.words[row] as usize..sheet.words[row + 1] as usize {
+        let (from, to) = sheet.row(row);
+        for q in from..to {
             let column = sheet.words[q] as usize;
             move_cell(index, figures, &mut next, column, row, sheet.figures[q]);
         }

@@ -1,7 +1,6 @@
-use Rattle.std.proofs.Common.{◌≡◌, ◌+◌, ◌≤◌, get_or, refl, arith}
+use Rattle.std.proofs.Common.{◌≡◌, ◌+◌, get_or, refl, arith}
 use Rattle.arithmetic.specs.Semiring.{meanings}
 use Rattle.matrix.proofs.Meant.{at_means}
-use Rattle.sheet.proofs.Found.{sound_rises}
 use Rattle.sheet.proofs.Known.{sheet_sound}
 use Rattle.transpose.proofs.Hits.{hits_all}
 use Rattle.transpose.proofs.Walks.{walking_none, walking_cell, walking_done, column_low, place_free}
@@ -32,7 +31,6 @@ pub loop-q-preserved : goal.loop-q-preserved
 loop-q-preserved g c =
     let a = g.F.Arithmetic.figures in
     let w = c.loop-q.invariant in
-    let within = w.rows (c.loop-row.row + 1) (omega arith) in
     let figure = at_means a c.args.sheet.now.figures.now c.loop-q.q c.index-sheet-q.result a.ring.zero (omega arith) in
     let moved = c.move_cell.ensures in
     walking_cell w c.loop-row.row (omega arith) (omega arith) (omega arith) _ refl _ figure _ _ _ moved.word moved.figure moved.next
@@ -41,7 +39,7 @@ pub loop-row-preserved : goal.loop-row-preserved
 loop-row-preserved g c =
     let w = c.loop-q.invariant in
     let words = c.args.sheet.now.words.now in
-    let up : get_or words c.loop-row.row 0 ≤ get_or words (c.loop-row.row + 1) 0 = sound_rises _ _ _ _ w.flip.sound c.loop-row.row (c.loop-row.row + 1) (omega arith) (omega arith) in
+    let at_row = c.row-from.ensures in
     let end : c.loop-q.q ≡ get_or words (c.loop-row.row + 1) 0 = omega (arith, c.loop-q.auto.q-end (omega arith)) in
     rw end at w
 
