@@ -66,10 +66,10 @@ impl Meetings {
         requires room { self.old.count + (slice_index pair.now.second.words.now (k + 1) - slice_index pair.now.second.words.now k) < 65535 }
         ensures { self.new ≡ pushed pair.now.second.words.now left (slice_index pair.now.second.words.now k) (slice_index pair.now.second.words.now (k + 1) - slice_index pair.now.second.words.now k) (meeting k left k self.old) }
     {
-        let words = pair.second.words;
+        let (from, to) = pair.second.row(k);
         self.push(k, left, k);
-        for q in words[k] as usize..words[k + 1] as usize {
-            self.push(words[q] as usize, left, q);
+        for q in from..to {
+            self.push(pair.second.words[q] as usize, left, q);
         }
     }
 
