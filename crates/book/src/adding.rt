@@ -2,8 +2,9 @@ ghost use Rattle.book.specs.Checked.{PairFound};
 ghost use Rattle.book.specs.Calls.{Outcome, Add};
 
 use crate::check::check_book;
+use crate::header::Header;
 use crate::making::{check_full, check_room, enter_sheet};
-use crate::places::{pair_at, place_of};
+use crate::places::pair_at;
 use arithmetic::Arithmetic;
 use sheet::Refusal;
 use sum::{added_length, write_added};
@@ -20,7 +21,8 @@ pub(crate) fn find_pair<F: Arithmetic>(
     ensures { PairFound F.Arithmetic.figures (record { header = header.now; index = index.now; figures = figures.now }) first second result }
 {
     check_book(header, index, figures)?;
-    let sheets = header[1] as usize;
+    let header = Header { words: header };
+    let sheets = header.sheets();
     if first >= sheets {
         return Err(Refusal::Sheet(first));
     }
@@ -28,7 +30,7 @@ pub(crate) fn find_pair<F: Arithmetic>(
         return Err(Refusal::Sheet(second));
     }
     check_full(sheets)?;
-    Ok((place_of(header, first), place_of(header, second)))
+    Ok((header.place_of(first), header.place_of(second)))
 }
 
 // Adds the sheet of the sum of two sheets, the first on the left. Answers its number.
@@ -42,8 +44,9 @@ pub fn add<F: Arithmetic>(
     ensures { Outcome F.Arithmetic.figures (record { header = header.old; index = index.old; figures = figures.old }) (Add first second) result (record { header = header.new; index = index.new; figures = figures.new }) }
 {
     let (one, two) = find_pair(header, index, figures, first, second)?;
-    let order = header[0] as usize;
-    let end = header[2 + header[1] as usize] as usize;
+    let words = Header { words: header };
+    let order = words.order();
+    let end = words.last_end();
     let (used, free) = index.split_at_mut(end);
     let (used_figures, free_figures) = figures.split_at_mut(end);
     let pair = pair_at(order, used, used_figures, one, two);

@@ -1,9 +1,9 @@
-ghost use Rattle.std.specs.Prelude.{◌≡◌, ◌<◌, length, Decides};
+ghost use Rattle.std.specs.Prelude.{◌<◌, Decides};
 ghost use Rattle.book.specs.Book.{HeaderRule};
 ghost use Rattle.book.specs.Checked.{LayoutChecked, HeaderChecked, BookChecked};
 
+use crate::header::Header;
 use crate::limits::{HEADER_WORDS, LARGEST_CAPACITY, LARGEST_ORDER, MOST_SHEETS};
-use crate::places::place_of;
 use arithmetic::Arithmetic;
 use sheet::{Refusal, check_sheet};
 
@@ -27,28 +27,28 @@ pub(crate) fn check_layout<F: Arithmetic>(
     Ok(())
 }
 
-// Whether word w of a header keeps its rule.
-fn word_keeps(header: &[u32], capacity: usize, w: usize) -> bool
-    requires { (length header.now ≡ 19) × (w < 19) }
-    ensures { Decides result (HeaderRule header.now capacity w) }
+// Whether word w of a header keeps its rule. The rules go by the numbers of the words, so they are read by number here.
+fn word_keeps(header: &Header, capacity: usize, w: usize) -> bool
+    requires { w < 19 }
+    ensures { Decides result (HeaderRule header.now.words.now capacity w) }
 {
-    let word = header[w] as usize;
-    let sheets = header[1] as usize;
+    let words = header.words;
+    let word = words[w] as usize;
+    let sheets = words[1] as usize;
     match w {
         0 => 1 <= word && word <= LARGEST_ORDER,
         1 => word <= MOST_SHEETS,
         2 => word == 0,
         _ if w <= 2 + sheets => {
-            header[w - 1] as usize + header[0] as usize + 1 <= word && word <= capacity
+            words[w - 1] as usize + words[0] as usize + 1 <= word && word <= capacity
         }
         _ => word == 0,
     }
 }
 
 // Whether every word of the header keeps its rule.
-fn check_header<F: Arithmetic>(header: &[u32], index: &[u32], figures: &[F]) -> Result<(), Refusal>
-    requires { length header.now ≡ 19 }
-    ensures { HeaderChecked (record { header = header.now; index = index.now; figures = figures.now }) result }
+fn check_header<F: Arithmetic>(header: &Header, index: &[u32], figures: &[F]) -> Result<(), Refusal>
+    ensures { HeaderChecked (record { header = header.now.words.now; index = index.now; figures = figures.now }) result }
 {
     for w in 0..HEADER_WORDS {
         if !word_keeps(header, index.len(), w) {
@@ -67,10 +67,11 @@ pub fn check_book<F: Arithmetic>(
     ensures { BookChecked F.Arithmetic.figures (record { header = header.now; index = index.now; figures = figures.now }) result }
 {
     check_layout(header, index, figures)?;
-    check_header(header, index, figures)?;
-    let order = header[0] as usize;
-    for k in 0..header[1] as usize {
-        let (from, to) = place_of(header, k);
+    let header = Header { words: header };
+    check_header(&header, index, figures)?;
+    let order = header.order();
+    for k in 0..header.sheets() {
+        let (from, to) = header.place_of(k);
         check_sheet(order, from, &index[from..to], &figures[from..to])?;
     }
     Ok(())

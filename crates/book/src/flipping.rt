@@ -1,5 +1,6 @@
 ghost use Rattle.book.specs.Calls.{Outcome, Flip};
 
+use crate::header::Header;
 use crate::lookup::find_sheet;
 use crate::making::{check_full, check_room, enter_sheet};
 use crate::places::sheet_at;
@@ -17,10 +18,10 @@ pub fn flip<F: Arithmetic>(
     ensures { Outcome F.Arithmetic.figures (record { header = header.old; index = index.old; figures = figures.old }) (Flip sheet) result (record { header = header.new; index = index.new; figures = figures.new }) }
 {
     let place = find_sheet(header, index, figures, sheet)?;
-    let sheets = header[1] as usize;
-    check_full(sheets)?;
-    let order = header[0] as usize;
-    let end = header[2 + sheets] as usize;
+    let words = Header { words: header };
+    check_full(words.sheets())?;
+    let order = words.order();
+    let end = words.last_end();
     let (used, free) = index.split_at_mut(end);
     let (used_figures, free_figures) = figures.split_at_mut(end);
     let sheet = sheet_at(order, used, used_figures, place);

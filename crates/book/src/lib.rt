@@ -5,6 +5,7 @@
 mod adding;
 mod check;
 mod flipping;
+mod header;
 mod limits;
 mod loading;
 mod lookup;

@@ -3,6 +3,7 @@ ghost use Rattle.book.specs.Checked.{LineChecked};
 ghost use Rattle.book.specs.Calls.{Outcome, Load};
 
 use crate::check::check_book;
+use crate::header::Header;
 use crate::making::{check_full, check_room, enter_sheet};
 use arithmetic::Arithmetic;
 use sheet::{Entries, Refusal, check_entries};
@@ -33,9 +34,9 @@ pub fn load<F: Arithmetic>(
 {
     check_book(header, index, figures)?;
     check_lists(rows, columns, values)?;
-    let order = header[0] as usize;
-    let sheets = header[1] as usize;
-    check_full(sheets)?;
+    let words = Header { words: header };
+    check_full(words.sheets())?;
+    let order = words.order();
     check_entries(order, rows, columns)?;
     let entries = Entries {
         rows,
@@ -43,7 +44,7 @@ pub fn load<F: Arithmetic>(
         figures: values,
     };
     let size = entries.packed_length(order);
-    let end = header[2 + sheets] as usize;
+    let end = words.last_end();
     let (_, free) = index.split_at_mut(end);
     let (_, free_figures) = figures.split_at_mut(end);
     check_room(size, free.len())?;

@@ -2,7 +2,8 @@ ghost use Rattle.book.specs.Checked.{SheetFound};
 ghost use Rattle.book.specs.Lookups.{CellIs, RowIs, RowPartIs, Between};
 
 use crate::check::check_book;
-use crate::places::{place_of, sheet_at};
+use crate::header::Header;
+use crate::places::sheet_at;
 use arithmetic::Arithmetic;
 use sheet::Refusal;
 
@@ -16,10 +17,11 @@ pub(crate) fn find_sheet<F: Arithmetic>(
     ensures { SheetFound F.Arithmetic.figures (record { header = header.now; index = index.now; figures = figures.now }) sheet result }
 {
     check_book(header, index, figures)?;
-    if sheet >= header[1] as usize {
+    let header = Header { words: header };
+    if sheet >= header.sheets() {
         return Err(Refusal::Sheet(sheet));
     }
-    Ok(place_of(header, sheet))
+    Ok(header.place_of(sheet))
 }
 
 // The figure of one cell of a sheet.
@@ -34,7 +36,7 @@ pub fn cell<F: Arithmetic>(
     ensures { CellIs F.Arithmetic.figures (record { header = header.now; index = index.now; figures = figures.now }) sheet row column result }
 {
     let place = find_sheet(header, index, figures, sheet)?;
-    let order = header[0] as usize;
+    let order = Header { words: header }.order();
     if row >= order {
         return Err(Refusal::Misplaced(0));
     }
@@ -57,7 +59,8 @@ pub fn row<F: Arithmetic>(
     ensures within { Between {S = F} (record { header = header.now; index = index.now; figures = figures.now }) result }
 {
     let (from, to) = find_sheet(header, index, figures, sheet)?;
-    if row >= header[0] as usize {
+    let order = Header { words: header }.order();
+    if row >= order {
         return Err(Refusal::Misplaced(0));
     }
     let words = &index[from..to];

@@ -1,6 +1,7 @@
 ghost use Rattle.book.specs.Calls.{Outcome, Multiply};
 
 use crate::adding::find_pair;
+use crate::header::Header;
 use crate::making::{check_room, enter_sheet};
 use crate::places::pair_at;
 use arithmetic::Arithmetic;
@@ -18,8 +19,9 @@ pub fn multiply<F: Arithmetic>(
     ensures { Outcome F.Arithmetic.figures (record { header = header.old; index = index.old; figures = figures.old }) (Multiply first second) result (record { header = header.new; index = index.new; figures = figures.new }) }
 {
     let (one, two) = find_pair(header, index, figures, first, second)?;
-    let order = header[0] as usize;
-    let end = header[2 + header[1] as usize] as usize;
+    let words = Header { words: header };
+    let order = words.order();
+    let end = words.last_end();
     let (used, free) = index.split_at_mut(end);
     let (used_figures, free_figures) = figures.split_at_mut(end);
     let pair = pair_at(order, used, used_figures, one, two);

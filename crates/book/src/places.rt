@@ -1,18 +1,10 @@
 // The sheets of a book, at their places.
-ghost use Rattle.std.specs.Prelude.{◌≡◌, ◌+◌, ◌<◌, ◌≤◌, length, slice_index};
+ghost use Rattle.std.specs.Prelude.{◌≡◌, ◌≤◌, length};
 ghost use Rattle.sheet.specs.Writing.{part};
 ghost use Rattle.book.specs.Checked.{Lying};
 
 use arithmetic::Arithmetic;
 use sheet::{Pair, Sheet};
-
-// Where a sheet of a book with this header begins and ends.
-pub(crate) fn place_of(header: &[u32], sheet: usize) -> (usize, usize)
-    requires { (length header.now ≡ 19) × (sheet < 16) }
-    ensures { result ≡ (slice_index header.now (2 + sheet), slice_index header.now (2 + (sheet + 1))) }
-{
-    (header[2 + sheet] as usize, header[2 + (sheet + 1)] as usize)
-}
 
 // The sheet of this order that lies between two places of the index array and the figure array.
 pub(crate) fn sheet_at<'a, F: Arithmetic>(

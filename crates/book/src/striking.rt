@@ -1,6 +1,7 @@
 ghost use Rattle.book.specs.Calls.{Outcome, Strike};
 
 use crate::check::check_book;
+use crate::header::Header;
 use arithmetic::Arithmetic;
 use sheet::Refusal;
 
@@ -13,7 +14,7 @@ pub fn strike<F: Arithmetic>(
     ensures { Outcome F.Arithmetic.figures (record { header = header.old; index = index.old; figures = figures.old }) Strike result (record { header = header.new; index = index.new; figures = figures.new }) }
 {
     check_book(header, index, figures)?;
-    let sheets = header[1] as usize;
+    let sheets = Header { words: header }.sheets();
     if sheets == 0 {
         return Err(Refusal::Sheet(0));
     }

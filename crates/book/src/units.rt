@@ -1,6 +1,7 @@
 ghost use Rattle.book.specs.Calls.{Outcome, Unit'};
 
 use crate::check::check_book;
+use crate::header::Header;
 use crate::making::{check_full, check_room, enter_sheet};
 use arithmetic::Arithmetic;
 use sheet::{Refusal, write_unit};
@@ -14,10 +15,10 @@ pub fn unit<F: Arithmetic>(
     ensures { Outcome F.Arithmetic.figures (record { header = header.old; index = index.old; figures = figures.old }) Unit' result (record { header = header.new; index = index.new; figures = figures.new }) }
 {
     check_book(header, index, figures)?;
-    let order = header[0] as usize;
-    let sheets = header[1] as usize;
-    check_full(sheets)?;
-    let end = header[2 + sheets] as usize;
+    let words = Header { words: header };
+    check_full(words.sheets())?;
+    let order = words.order();
+    let end = words.last_end();
     let (_, free) = index.split_at_mut(end);
     let (_, free_figures) = figures.split_at_mut(end);
     check_room(order + 1, free.len())?;

@@ -1,7 +1,8 @@
 ghost use Rattle.book.specs.Workings.{WorkingFound, ColumnWorked, RowWorked};
 
 use crate::check::check_book;
-use crate::places::{place_of, sheet_at};
+use crate::header::Header;
+use crate::places::sheet_at;
 use arithmetic::Arithmetic;
 use sheet::Refusal;
 use workings::{work_columns, work_rows};
@@ -19,17 +20,18 @@ fn find_working<F: Arithmetic>(
     ensures { WorkingFound F.Arithmetic.figures (record { header = header.now; index = index.now; figures = figures.now }) sheet given.now out.now result }
 {
     check_book(header, index, figures)?;
-    let order = header[0] as usize;
+    let header = Header { words: header };
+    let order = header.order();
     if given.len() != order {
         return Err(Refusal::Lengths(0));
     }
     if out.len() != order {
         return Err(Refusal::Lengths(1));
     }
-    if sheet >= header[1] as usize {
+    if sheet >= header.sheets() {
         return Err(Refusal::Sheet(sheet));
     }
-    Ok(place_of(header, sheet))
+    Ok(header.place_of(sheet))
 }
 
 // A sheet times the vector x: out(i) becomes the sum of cell(i, j) × x(j) over the columns j. Answers 0.
@@ -44,7 +46,7 @@ pub fn column_working<F: Arithmetic>(
     ensures { ColumnWorked F.Arithmetic.figures (record { header = header.now; index = index.now; figures = figures.now }) sheet x.now out.old result out.new }
 {
     let place = find_working(header, index, figures, sheet, x, out)?;
-    let sheet = sheet_at(header[0] as usize, index, figures, place);
+    let sheet = sheet_at(Header { words: header }.order(), index, figures, place);
     work_columns(&sheet, x, out);
     Ok(0)
 }
@@ -63,7 +65,7 @@ pub fn row_working<F: Arithmetic>(
     ensures { RowWorked F.Arithmetic.figures (record { header = header.now; index = index.now; figures = figures.now }) sheet y.now out.old result out.new }
 {
     let place = find_working(header, index, figures, sheet, y, out)?;
-    let sheet = sheet_at(header[0] as usize, index, figures, place);
+    let sheet = sheet_at(Header { words: header }.order(), index, figures, place);
     work_rows(&sheet, y, out);
     Ok(0)
 }

@@ -14,18 +14,14 @@ returns-in_err-check_book g c =
     rw p.1 p.2
 
 pub place_of-requires : goal.place_of-requires
-place_of-requires g c =
-    let sound = c.in_ok-check_book.ensures in
-    (sound.words, omega (arith, few _ _ sound.header_rules))
+place_of-requires g c = omega (arith, few _ _ c.in_ok-check_book.ensures.header_rules)
 
 pub place_of-requires-2 : goal.place_of-requires-2
-place_of-requires-2 g c =
-    let sound = c.in_ok-check_book.ensures in
-    (sound.words, omega (arith, few _ _ sound.header_rules))
+place_of-requires-2 g c = omega (arith, few _ _ c.in_ok-check_book.ensures.header_rules)
 
 pub returns : goal.returns
 returns g c =
     let a = g.F.Arithmetic.figures in
     let b : Arrays g.row.F.Denot = record { header = c.args.header.now; index = c.args.index.now; figures = c.args.figures.now } in
     let sound = c.in_ok-check_book.ensures in
-    (rw c.place_of.ensures (sheet_lies a b sound c.args.first (omega arith)), rw c.place_of-2.ensures (sheet_lies a b sound c.args.second (omega arith)), few_from (sheets_of b) (few _ _ sound.header_rules) c.in_ok-check_full.ensures)
+    (rw c.place_of.ensures (sheet_lies a b sound c.args.first (omega arith)), rw c.place_of-2.ensures (sheet_lies a b sound c.args.second (omega arith)), few_from (sheets_of b) (few _ _ sound.header_rules) (rw c.sheets-sheets.ensures at c.in_ok-check_full.ensures))

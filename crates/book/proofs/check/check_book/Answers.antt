@@ -22,12 +22,12 @@ returns-in_err-check_sheet g c =
     let p = err_from_is_err_and c.from_residual-in_err-check_sheet.result c.from_residual-in_err-check_sheet.ensures.1 in
     let b : Arrays g.row.F.Denot = record { header = c.args.header.now; index = c.args.index.now; figures = c.args.figures.now } in
     let headed = c.in_ok-check_header.ensures in
-    let broken = rw c.place_of-from.ensures at c.in_err-check_sheet.ensures in
-    rw (p.1, p.2) (inr (layout_passes b c.in_ok-check_layout.ensures, inr (header_passes b headed, inl (_, broken.1, first_break a b headed c.loop-k.k broken.0 c.loop-k-test.true c.loop-k.invariant.2 broken.2))))
+    let broken = rw (c.place_of-from.ensures, c.order-order.ensures) at c.in_err-check_sheet.ensures in
+    rw (p.1, p.2) (inr (layout_passes b c.in_ok-check_layout.ensures, inr (header_passes b headed, inl (_, broken.1, first_break a b headed c.loop-k.k broken.0 (omega arith) c.loop-k.invariant.2 broken.2))))
 
 pub loop-k-preserved : goal.loop-k-preserved
 loop-k-preserved g c =
-    let sound = rw c.place_of-from.ensures at c.in_ok-check_sheet.ensures in
+    let sound = rw (c.place_of-from.ensures, c.order-order.ensures) at c.in_ok-check_sheet.ensures in
     (c.loop-k.invariant.0, c.loop-k.invariant.1, below_more _ _ c.loop-k.invariant.2 sound.rules)
 
 pub returns : goal.returns

@@ -1,4 +1,4 @@
-use Rattle.std.proofs.Common.{◌≤◌, [], ◌∷◌, ◌++◌, length, sym, refl, ap, arith}
+use Rattle.std.proofs.Common.{◌≤◌, [], ◌∷◌, ◌++◌, length, sym, refl, ap, ◌∙◌, arith}
 use Rattle.matrix.specs.Tables.{flipped}
 use Rattle.sheet.specs.Sheets.{table_of}
 use Rattle.sheet.proofs.Known.{sheet_sound}
@@ -23,21 +23,19 @@ returns-in_err-place g c =
     let p = early_by (sheet_guard a b k) (full (sheets_of b) ∷ (no_room a b (flipped (sheet_table a b k)) ∷ [])) c.from_residual.result c.in_err-place.field-0.0 c.from_residual.ensures.1 c.in_err-place.ensures in
     rw p.1 (p.2, refl)
 
-pub bounds-header-sheets : goal.bounds-header-sheets
-bounds-header-sheets g c =
-    let sound = c.in_ok-place.ensures.sound in
-    omega (arith, few _ _ sound.header_rules, sound.words)
+pub last_end-end-requires : goal.last_end-end-requires
+last_end-end-requires g c = few _ _ c.in_ok-place.ensures.sound.header_rules
 
 pub split_at_mut-used-requires : goal.split_at_mut-used-requires
 split_at_mut-used-requires g c =
     let b : Arrays g.row.F.Denot = record { header = c.args.header.now; index = c.args.index.now; figures = c.args.figures.now } in
-    end_within b c.in_ok-place.ensures.sound.header_rules
+    rw c.last_end-end.ensures (end_within b c.in_ok-place.ensures.sound.header_rules)
 
 pub sheet_at-sheet-requires : goal.sheet_at-sheet-requires
 sheet_at-sheet-requires g c =
     let a = g.F.Arithmetic.figures in
     let b : Arrays g.row.F.Denot = record { header = c.args.header.now; index = c.args.index.now; figures = c.args.figures.now } in
-    lying_used a b c.args.sheet _ c.in_ok-place.ensures _ _ c.split_at_mut-used.ensures.front c.split_at_mut-used_figures.ensures.front
+    rw c.order-order.ensures (lying_used a b c.args.sheet _ c.in_ok-place.ensures _ _ (rw c.last_end-end.ensures at c.split_at_mut-used.ensures.front) (rw c.last_end-end.ensures at c.split_at_mut-used_figures.ensures.front))
 
 pub returns-in_err-check_room : goal.returns-in_err-check_room
 returns-in_err-check_room g c =
@@ -46,16 +44,16 @@ returns-in_err-check_room g c =
     let k = c.args.sheet in
     let found = c.in_ok-place.ensures in
     let sound = found.sound in
-    let used = c.split_at_mut-used.ensures in
-    let used' = c.split_at_mut-used_figures.ensures in
-    let few = few_from (sheets_of b) (sheets_few a b sound) c.in_ok-check_full.ensures in
+    let used = rw c.last_end-end.ensures at c.split_at_mut-used.ensures in
+    let used' = rw c.last_end-end.ensures at c.split_at_mut-used_figures.ensures in
+    let few = few_from (sheets_of b) (sheets_few a b sound) (rw c.sheets.ensures at c.in_ok-check_full.ensures) in
     let sheet = c.sheet_at-sheet.result in
     let is = c.sheet_at-sheet.ensures in
     let made : Making a b (guard a b ++ (missing b (k ∷ []) ∷ (full (sheets_of b) ∷ []))) (flipped (sheet_table a b k)) _ _ _ _ sheet.order (flipped (table_of sheet)) (length sheet.words.now) = record {
       sound = sound;
       split = record { used_is = used.front; free_is = used.back; whole = used.value; used_is' = used'.front; free_is' = used'.back; whole' = used'.value };
       pass = flip_granted a b k sound found.there few;
-      order = is.order;
+      order = is.order ∙ c.order-order.ensures;
       same = ap flipped (used_table a b k _ found _ _ used.front used'.front _ _ is.words is.figures);
       size_is = sym (flipped_length a.ring _ _ _ (sheet_sound sheet));
     } in
@@ -69,41 +67,41 @@ write_flipped-requires g c =
     let k = c.args.sheet in
     let found = c.in_ok-place.ensures in
     let sound = found.sound in
-    let used = c.split_at_mut-used.ensures in
-    let used' = c.split_at_mut-used_figures.ensures in
-    let few = few_from (sheets_of b) (sheets_few a b sound) c.in_ok-check_full.ensures in
+    let used = rw c.last_end-end.ensures at c.split_at_mut-used.ensures in
+    let used' = rw c.last_end-end.ensures at c.split_at_mut-used_figures.ensures in
+    let few = few_from (sheets_of b) (sheets_few a b sound) (rw c.sheets.ensures at c.in_ok-check_full.ensures) in
     let sheet = c.sheet_at-sheet.result in
     let is = c.sheet_at-sheet.ensures in
     let made : Making a b (guard a b ++ (missing b (k ∷ []) ∷ (full (sheets_of b) ∷ []))) (flipped (sheet_table a b k)) _ _ _ _ sheet.order (flipped (table_of sheet)) (length sheet.words.now) = record {
       sound = sound;
       split = record { used_is = used.front; free_is = used.back; whole = used.value; used_is' = used'.front; free_is' = used'.back; whole' = used'.value };
       pass = flip_granted a b k sound found.there few;
-      order = is.order;
+      order = is.order ∙ c.order-order.ensures;
       same = ap flipped (used_table a b k _ found _ _ used.front used'.front _ _ is.words is.figures);
       size_is = sym (flipped_length a.ring _ _ _ (sheet_sound sheet));
     } in
     let arrays = making_arrays made in
     let fits : length sheet.words.now ≤ _ = rw made.size_is (making_room made c.in_ok-check_room.ensures) in
-    let low : sheet.order ≤ 1024 = rw is.order (order_most a b sound) in
+    let low : sheet.order ≤ 1024 = rw (is.order ∙ c.order-order.ensures) (order_most a b sound) in
     record { small = (low, omega arith); arrays = arrays; room = fits }
 
-pub overflow_add-end-2 : goal.overflow_add-end-2
-overflow_add-end-2 g c =
+pub overflow_add-end : goal.overflow_add-end
+overflow_add-end g c =
     let a = g.F.Arithmetic.figures in
     let b : Arrays g.row.F.Denot = record { header = c.args.header.now; index = c.args.index.now; figures = c.args.figures.now } in
     let k = c.args.sheet in
     let found = c.in_ok-place.ensures in
     let sound = found.sound in
-    let used = c.split_at_mut-used.ensures in
-    let used' = c.split_at_mut-used_figures.ensures in
-    let few = few_from (sheets_of b) (sheets_few a b sound) c.in_ok-check_full.ensures in
+    let used = rw c.last_end-end.ensures at c.split_at_mut-used.ensures in
+    let used' = rw c.last_end-end.ensures at c.split_at_mut-used_figures.ensures in
+    let few = few_from (sheets_of b) (sheets_few a b sound) (rw c.sheets.ensures at c.in_ok-check_full.ensures) in
     let sheet = c.sheet_at-sheet.result in
     let is = c.sheet_at-sheet.ensures in
     let made : Making a b (guard a b ++ (missing b (k ∷ []) ∷ (full (sheets_of b) ∷ []))) (flipped (sheet_table a b k)) _ _ _ _ sheet.order (flipped (table_of sheet)) (length sheet.words.now) = record {
       sound = sound;
       split = record { used_is = used.front; free_is = used.back; whole = used.value; used_is' = used'.front; free_is' = used'.back; whole' = used'.value };
       pass = flip_granted a b k sound found.there few;
-      order = is.order;
+      order = is.order ∙ c.order-order.ensures;
       same = ap flipped (used_table a b k _ found _ _ used.front used'.front _ _ is.words is.figures);
       size_is = sym (flipped_length a.ring _ _ _ (sheet_sound sheet));
     } in
@@ -116,20 +114,20 @@ enter_sheet-requires g c =
     let k = c.args.sheet in
     let found = c.in_ok-place.ensures in
     let sound = found.sound in
-    let used = c.split_at_mut-used.ensures in
-    let used' = c.split_at_mut-used_figures.ensures in
-    let few = few_from (sheets_of b) (sheets_few a b sound) c.in_ok-check_full.ensures in
+    let used = rw c.last_end-end.ensures at c.split_at_mut-used.ensures in
+    let used' = rw c.last_end-end.ensures at c.split_at_mut-used_figures.ensures in
+    let few = few_from (sheets_of b) (sheets_few a b sound) (rw c.sheets.ensures at c.in_ok-check_full.ensures) in
     let sheet = c.sheet_at-sheet.result in
     let is = c.sheet_at-sheet.ensures in
     let made : Making a b (guard a b ++ (missing b (k ∷ []) ∷ (full (sheets_of b) ∷ []))) (flipped (sheet_table a b k)) _ _ _ _ sheet.order (flipped (table_of sheet)) (length sheet.words.now) = record {
       sound = sound;
       split = record { used_is = used.front; free_is = used.back; whole = used.value; used_is' = used'.front; free_is' = used'.back; whole' = used'.value };
       pass = flip_granted a b k sound found.there few;
-      order = is.order;
+      order = is.order ∙ c.order-order.ensures;
       same = ap flipped (used_table a b k _ found _ _ used.front used'.front _ _ is.words is.figures);
       size_is = sym (flipped_length a.ring _ _ _ (sheet_sound sheet));
     } in
-    (sound.words, (few, making_end made c.in_ok-check_room.ensures))
+    (sound.words, (few, rw c.last_end-end.ensures (making_end made c.in_ok-check_room.ensures)))
 
 pub returns : goal.returns
 returns g c =
@@ -138,18 +136,18 @@ returns g c =
     let k = c.args.sheet in
     let found = c.in_ok-place.ensures in
     let sound = found.sound in
-    let used = c.split_at_mut-used.ensures in
-    let used' = c.split_at_mut-used_figures.ensures in
-    let few = few_from (sheets_of b) (sheets_few a b sound) c.in_ok-check_full.ensures in
+    let used = rw c.last_end-end.ensures at c.split_at_mut-used.ensures in
+    let used' = rw c.last_end-end.ensures at c.split_at_mut-used_figures.ensures in
+    let few = few_from (sheets_of b) (sheets_few a b sound) (rw c.sheets.ensures at c.in_ok-check_full.ensures) in
     let sheet = c.sheet_at-sheet.result in
     let is = c.sheet_at-sheet.ensures in
     let made : Making a b (guard a b ++ (missing b (k ∷ []) ∷ (full (sheets_of b) ∷ []))) (flipped (sheet_table a b k)) _ _ _ _ sheet.order (flipped (table_of sheet)) (length sheet.words.now) = record {
       sound = sound;
       split = record { used_is = used.front; free_is = used.back; whole = used.value; used_is' = used'.front; free_is' = used'.back; whole' = used'.value };
       pass = flip_granted a b k sound found.there few;
-      order = is.order;
+      order = is.order ∙ c.order-order.ensures;
       same = ap flipped (used_table a b k _ found _ _ used.front used'.front _ _ is.words is.figures);
       size_is = sym (flipped_length a.ring _ _ _ (sheet_sound sheet));
     } in
-    let done = making_done made c.in_ok-check_room.ensures c.enter_sheet.new.header c.write_flipped.new.index c.write_flipped.new.figures c.write_flipped.ensures c.enter_sheet.ensures.words in
+    let done = making_done made c.in_ok-check_room.ensures c.enter_sheet.new.header c.write_flipped.new.index c.write_flipped.new.figures c.write_flipped.ensures (rw c.last_end-end.ensures at c.enter_sheet.ensures.words) in
     (done.0, (c.enter_sheet.ensures.number, done.1))

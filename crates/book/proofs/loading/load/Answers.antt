@@ -1,8 +1,10 @@
-use Rattle.std.proofs.Common.{[], ◌∷◌, ◌++◌, refl, arith}
+use Rattle.std.proofs.Common.{[], ◌∷◌, ◌++◌, refl, inl, inr, arith}
 use Rattle.sheet.proofs.Lists.{listed}
 use Rattle.book.specs.Book.{Arrays, order_of, sheets_of}
 use Rattle.book.specs.Lines.{guard, full, list_lengths, misplaced}
 use Rattle.book.proofs.Passing.{guard_passes, granted_both, no_break}
+use Rattle.book.specs.Calls.{no_room}
+use Rattle.book.proofs.Early.{late}
 use Rattle.book.proofs.Ends.{end_within, few_from, lists_even}
 use Rattle.book.proofs.Starts.{few}
 use Rattle.book.proofs.Rooms.{Split, Making, making_arrays, making_sent, making_room, making_end, making_done}
@@ -10,6 +12,17 @@ use Rattle.book.proofs.loading.load.Goals as goal
 
 pub check_entries-requires : goal.check_entries-requires
 check_entries-requires g c = (lists_even c.args.rows.now c.args.columns.now c.args.values.now c.in_ok-check_lists.ensures).0
+
+pub returns-in_err-check_entries : goal.returns-in_err-check_entries
+returns-in_err-check_entries g c =
+    let a = g.F.Arithmetic.figures in
+    let b : Arrays g.row.F.Denot = record { header = c.args.header.now; index = c.args.index.now; figures = c.args.figures.now } in
+    let rows = c.args.rows.now in
+    let columns = c.args.columns.now in
+    let values = c.args.values.now in
+    let more = list_lengths rows columns values ∷ (full (sheets_of b) ∷ (misplaced (order_of b) rows columns ∷ (no_room a b (listed a rows columns values) ∷ []))) in
+    let p = late a b c.in_ok-check_book.ensures more c.from_residual-in_err-check_entries.result c.in_err-check_entries.field-0.0 c.from_residual-in_err-check_entries.ensures.1 (inr (c.in_ok-check_lists.ensures, inr (rw c.sheets.ensures at c.in_ok-check_full.ensures, inl (rw c.order-order.ensures at c.in_err-check_entries.ensures)))) in
+    rw p.1 (p.2, refl)
 
 pub invariant_of-entries : goal.invariant_of-entries
 invariant_of-entries g c =
@@ -19,31 +32,29 @@ invariant_of-entries g c =
 pub packed_length-size-requires : goal.packed_length-size-requires
 packed_length-size-requires g c =
     let sound = c.in_ok-check_book.ensures in
-    record { order = (sound.header_rules 0 (omega arith)).order refl; placed = c.in_ok-check_entries.ensures }
+    record { order = rw c.order-order.ensures ((sound.header_rules 0 (omega arith)).order refl); placed = c.in_ok-check_entries.ensures }
 
-pub bounds-header-sheets : goal.bounds-header-sheets
-bounds-header-sheets g c =
-    let sound = c.in_ok-check_book.ensures in
-    omega (arith, few _ _ sound.header_rules, sound.words)
+pub last_end-end-requires : goal.last_end-end-requires
+last_end-end-requires g c = few _ _ c.in_ok-check_book.ensures.header_rules
 
 pub split_at_mut-free-requires : goal.split_at_mut-free-requires
 split_at_mut-free-requires g c =
     let b : Arrays g.row.F.Denot = record { header = c.args.header.now; index = c.args.index.now; figures = c.args.figures.now } in
-    end_within b c.in_ok-check_book.ensures.header_rules
+    rw c.last_end-end.ensures (end_within b c.in_ok-check_book.ensures.header_rules)
 
 pub returns-in_err-check_room : goal.returns-in_err-check_room
 returns-in_err-check_room g c =
     let a = g.F.Arithmetic.figures in
     let b : Arrays g.row.F.Denot = record { header = c.args.header.now; index = c.args.index.now; figures = c.args.figures.now } in
     let sound = c.in_ok-check_book.ensures in
-    let free = c.split_at_mut-free.ensures in
-    let free' = c.split_at_mut-free_figures.ensures in
+    let free = rw c.last_end-end.ensures at c.split_at_mut-free.ensures in
+    let free' = rw c.last_end-end.ensures at c.split_at_mut-free_figures.ensures in
     let split : Split b _ _ _ _ = record { used_is = free.front; free_is = free.back; whole = free.value; used_is' = free'.front; free_is' = free'.back; whole' = free'.value } in
-    let made : Making a b (guard a b ++ (list_lengths c.args.rows.now c.args.columns.now c.args.values.now ∷ (full (sheets_of b) ∷ (misplaced (order_of b) c.args.rows.now c.args.columns.now ∷ [])))) (listed a c.args.rows.now c.args.columns.now c.args.values.now) _ _ _ _ (order_of b) (listed a c.args.rows.now c.args.columns.now c.args.values.now) c.packed_length-size.result = record {
+    let made : Making a b (guard a b ++ (list_lengths c.args.rows.now c.args.columns.now c.args.values.now ∷ (full (sheets_of b) ∷ (misplaced (order_of b) c.args.rows.now c.args.columns.now ∷ [])))) (listed a c.args.rows.now c.args.columns.now c.args.values.now) _ _ _ _ c.order-order.result (listed a c.args.rows.now c.args.columns.now c.args.values.now) c.packed_length-size.result = record {
       sound = sound;
       split = split;
-      pass = granted_both (guard a b) (list_lengths c.args.rows.now c.args.columns.now c.args.values.now ∷ (full (sheets_of b) ∷ (misplaced (order_of b) c.args.rows.now c.args.columns.now ∷ []))) (guard_passes b a sound) (c.in_ok-check_lists.ensures, (c.in_ok-check_full.ensures, ((λ why told. no_break _ _ told.0 c.in_ok-check_entries.ensures told.2), tt)));
-      order = refl;
+      pass = granted_both (guard a b) (list_lengths c.args.rows.now c.args.columns.now c.args.values.now ∷ (full (sheets_of b) ∷ (misplaced (order_of b) c.args.rows.now c.args.columns.now ∷ []))) (guard_passes b a sound) (c.in_ok-check_lists.ensures, ((rw c.sheets.ensures at c.in_ok-check_full.ensures), ((λ why told. no_break _ _ told.0 (rw c.order-order.ensures at c.in_ok-check_entries.ensures) told.2), tt)));
+      order = c.order-order.ensures;
       same = refl;
       size_is = c.packed_length-size.ensures;
     } in
@@ -55,33 +66,33 @@ write-requires g c =
     let a = g.F.Arithmetic.figures in
     let b : Arrays g.row.F.Denot = record { header = c.args.header.now; index = c.args.index.now; figures = c.args.figures.now } in
     let sound = c.in_ok-check_book.ensures in
-    let free = c.split_at_mut-free.ensures in
-    let free' = c.split_at_mut-free_figures.ensures in
+    let free = rw c.last_end-end.ensures at c.split_at_mut-free.ensures in
+    let free' = rw c.last_end-end.ensures at c.split_at_mut-free_figures.ensures in
     let split : Split b _ _ _ _ = record { used_is = free.front; free_is = free.back; whole = free.value; used_is' = free'.front; free_is' = free'.back; whole' = free'.value } in
-    let made : Making a b (guard a b ++ (list_lengths c.args.rows.now c.args.columns.now c.args.values.now ∷ (full (sheets_of b) ∷ (misplaced (order_of b) c.args.rows.now c.args.columns.now ∷ [])))) (listed a c.args.rows.now c.args.columns.now c.args.values.now) _ _ _ _ (order_of b) (listed a c.args.rows.now c.args.columns.now c.args.values.now) c.packed_length-size.result = record {
+    let made : Making a b (guard a b ++ (list_lengths c.args.rows.now c.args.columns.now c.args.values.now ∷ (full (sheets_of b) ∷ (misplaced (order_of b) c.args.rows.now c.args.columns.now ∷ [])))) (listed a c.args.rows.now c.args.columns.now c.args.values.now) _ _ _ _ c.order-order.result (listed a c.args.rows.now c.args.columns.now c.args.values.now) c.packed_length-size.result = record {
       sound = sound;
       split = split;
-      pass = granted_both (guard a b) (list_lengths c.args.rows.now c.args.columns.now c.args.values.now ∷ (full (sheets_of b) ∷ (misplaced (order_of b) c.args.rows.now c.args.columns.now ∷ []))) (guard_passes b a sound) (c.in_ok-check_lists.ensures, (c.in_ok-check_full.ensures, ((λ why told. no_break _ _ told.0 c.in_ok-check_entries.ensures told.2), tt)));
-      order = refl;
+      pass = granted_both (guard a b) (list_lengths c.args.rows.now c.args.columns.now c.args.values.now ∷ (full (sheets_of b) ∷ (misplaced (order_of b) c.args.rows.now c.args.columns.now ∷ []))) (guard_passes b a sound) (c.in_ok-check_lists.ensures, ((rw c.sheets.ensures at c.in_ok-check_full.ensures), ((λ why told. no_break _ _ told.0 (rw c.order-order.ensures at c.in_ok-check_entries.ensures) told.2), tt)));
+      order = c.order-order.ensures;
       same = refl;
       size_is = c.packed_length-size.ensures;
     } in
     let bounds = (sound.header_rules 0 (omega arith)).order refl in
-    record { order = bounds; arrays = making_arrays made; room = making_room made c.in_ok-check_room.ensures; placed = c.in_ok-check_entries.ensures }
+    record { order = rw c.order-order.ensures bounds; arrays = making_arrays made; room = making_room made c.in_ok-check_room.ensures; placed = c.in_ok-check_entries.ensures }
 
-pub overflow_add-end-2 : goal.overflow_add-end-2
-overflow_add-end-2 g c =
+pub overflow_add-end : goal.overflow_add-end
+overflow_add-end g c =
     let a = g.F.Arithmetic.figures in
     let b : Arrays g.row.F.Denot = record { header = c.args.header.now; index = c.args.index.now; figures = c.args.figures.now } in
     let sound = c.in_ok-check_book.ensures in
-    let free = c.split_at_mut-free.ensures in
-    let free' = c.split_at_mut-free_figures.ensures in
+    let free = rw c.last_end-end.ensures at c.split_at_mut-free.ensures in
+    let free' = rw c.last_end-end.ensures at c.split_at_mut-free_figures.ensures in
     let split : Split b _ _ _ _ = record { used_is = free.front; free_is = free.back; whole = free.value; used_is' = free'.front; free_is' = free'.back; whole' = free'.value } in
-    let made : Making a b (guard a b ++ (list_lengths c.args.rows.now c.args.columns.now c.args.values.now ∷ (full (sheets_of b) ∷ (misplaced (order_of b) c.args.rows.now c.args.columns.now ∷ [])))) (listed a c.args.rows.now c.args.columns.now c.args.values.now) _ _ _ _ (order_of b) (listed a c.args.rows.now c.args.columns.now c.args.values.now) c.packed_length-size.result = record {
+    let made : Making a b (guard a b ++ (list_lengths c.args.rows.now c.args.columns.now c.args.values.now ∷ (full (sheets_of b) ∷ (misplaced (order_of b) c.args.rows.now c.args.columns.now ∷ [])))) (listed a c.args.rows.now c.args.columns.now c.args.values.now) _ _ _ _ c.order-order.result (listed a c.args.rows.now c.args.columns.now c.args.values.now) c.packed_length-size.result = record {
       sound = sound;
       split = split;
-      pass = granted_both (guard a b) (list_lengths c.args.rows.now c.args.columns.now c.args.values.now ∷ (full (sheets_of b) ∷ (misplaced (order_of b) c.args.rows.now c.args.columns.now ∷ []))) (guard_passes b a sound) (c.in_ok-check_lists.ensures, (c.in_ok-check_full.ensures, ((λ why told. no_break _ _ told.0 c.in_ok-check_entries.ensures told.2), tt)));
-      order = refl;
+      pass = granted_both (guard a b) (list_lengths c.args.rows.now c.args.columns.now c.args.values.now ∷ (full (sheets_of b) ∷ (misplaced (order_of b) c.args.rows.now c.args.columns.now ∷ []))) (guard_passes b a sound) (c.in_ok-check_lists.ensures, ((rw c.sheets.ensures at c.in_ok-check_full.ensures), ((λ why told. no_break _ _ told.0 (rw c.order-order.ensures at c.in_ok-check_entries.ensures) told.2), tt)));
+      order = c.order-order.ensures;
       same = refl;
       size_is = c.packed_length-size.ensures;
     } in
@@ -92,34 +103,34 @@ enter_sheet-requires g c =
     let a = g.F.Arithmetic.figures in
     let b : Arrays g.row.F.Denot = record { header = c.args.header.now; index = c.args.index.now; figures = c.args.figures.now } in
     let sound = c.in_ok-check_book.ensures in
-    let free = c.split_at_mut-free.ensures in
-    let free' = c.split_at_mut-free_figures.ensures in
+    let free = rw c.last_end-end.ensures at c.split_at_mut-free.ensures in
+    let free' = rw c.last_end-end.ensures at c.split_at_mut-free_figures.ensures in
     let split : Split b _ _ _ _ = record { used_is = free.front; free_is = free.back; whole = free.value; used_is' = free'.front; free_is' = free'.back; whole' = free'.value } in
-    let made : Making a b (guard a b ++ (list_lengths c.args.rows.now c.args.columns.now c.args.values.now ∷ (full (sheets_of b) ∷ (misplaced (order_of b) c.args.rows.now c.args.columns.now ∷ [])))) (listed a c.args.rows.now c.args.columns.now c.args.values.now) _ _ _ _ (order_of b) (listed a c.args.rows.now c.args.columns.now c.args.values.now) c.packed_length-size.result = record {
+    let made : Making a b (guard a b ++ (list_lengths c.args.rows.now c.args.columns.now c.args.values.now ∷ (full (sheets_of b) ∷ (misplaced (order_of b) c.args.rows.now c.args.columns.now ∷ [])))) (listed a c.args.rows.now c.args.columns.now c.args.values.now) _ _ _ _ c.order-order.result (listed a c.args.rows.now c.args.columns.now c.args.values.now) c.packed_length-size.result = record {
       sound = sound;
       split = split;
-      pass = granted_both (guard a b) (list_lengths c.args.rows.now c.args.columns.now c.args.values.now ∷ (full (sheets_of b) ∷ (misplaced (order_of b) c.args.rows.now c.args.columns.now ∷ []))) (guard_passes b a sound) (c.in_ok-check_lists.ensures, (c.in_ok-check_full.ensures, ((λ why told. no_break _ _ told.0 c.in_ok-check_entries.ensures told.2), tt)));
-      order = refl;
+      pass = granted_both (guard a b) (list_lengths c.args.rows.now c.args.columns.now c.args.values.now ∷ (full (sheets_of b) ∷ (misplaced (order_of b) c.args.rows.now c.args.columns.now ∷ []))) (guard_passes b a sound) (c.in_ok-check_lists.ensures, ((rw c.sheets.ensures at c.in_ok-check_full.ensures), ((λ why told. no_break _ _ told.0 (rw c.order-order.ensures at c.in_ok-check_entries.ensures) told.2), tt)));
+      order = c.order-order.ensures;
       same = refl;
       size_is = c.packed_length-size.ensures;
     } in
-    (sound.words, (few_from (sheets_of b) (few _ _ sound.header_rules) c.in_ok-check_full.ensures, making_end made c.in_ok-check_room.ensures))
+    (sound.words, (few_from (sheets_of b) (few _ _ sound.header_rules) (rw c.sheets.ensures at c.in_ok-check_full.ensures), rw c.last_end-end.ensures (making_end made c.in_ok-check_room.ensures)))
 
 pub returns : goal.returns
 returns g c =
     let a = g.F.Arithmetic.figures in
     let b : Arrays g.row.F.Denot = record { header = c.args.header.now; index = c.args.index.now; figures = c.args.figures.now } in
     let sound = c.in_ok-check_book.ensures in
-    let free = c.split_at_mut-free.ensures in
-    let free' = c.split_at_mut-free_figures.ensures in
+    let free = rw c.last_end-end.ensures at c.split_at_mut-free.ensures in
+    let free' = rw c.last_end-end.ensures at c.split_at_mut-free_figures.ensures in
     let split : Split b _ _ _ _ = record { used_is = free.front; free_is = free.back; whole = free.value; used_is' = free'.front; free_is' = free'.back; whole' = free'.value } in
-    let made : Making a b (guard a b ++ (list_lengths c.args.rows.now c.args.columns.now c.args.values.now ∷ (full (sheets_of b) ∷ (misplaced (order_of b) c.args.rows.now c.args.columns.now ∷ [])))) (listed a c.args.rows.now c.args.columns.now c.args.values.now) _ _ _ _ (order_of b) (listed a c.args.rows.now c.args.columns.now c.args.values.now) c.packed_length-size.result = record {
+    let made : Making a b (guard a b ++ (list_lengths c.args.rows.now c.args.columns.now c.args.values.now ∷ (full (sheets_of b) ∷ (misplaced (order_of b) c.args.rows.now c.args.columns.now ∷ [])))) (listed a c.args.rows.now c.args.columns.now c.args.values.now) _ _ _ _ c.order-order.result (listed a c.args.rows.now c.args.columns.now c.args.values.now) c.packed_length-size.result = record {
       sound = sound;
       split = split;
-      pass = granted_both (guard a b) (list_lengths c.args.rows.now c.args.columns.now c.args.values.now ∷ (full (sheets_of b) ∷ (misplaced (order_of b) c.args.rows.now c.args.columns.now ∷ []))) (guard_passes b a sound) (c.in_ok-check_lists.ensures, (c.in_ok-check_full.ensures, ((λ why told. no_break _ _ told.0 c.in_ok-check_entries.ensures told.2), tt)));
-      order = refl;
+      pass = granted_both (guard a b) (list_lengths c.args.rows.now c.args.columns.now c.args.values.now ∷ (full (sheets_of b) ∷ (misplaced (order_of b) c.args.rows.now c.args.columns.now ∷ []))) (guard_passes b a sound) (c.in_ok-check_lists.ensures, ((rw c.sheets.ensures at c.in_ok-check_full.ensures), ((λ why told. no_break _ _ told.0 (rw c.order-order.ensures at c.in_ok-check_entries.ensures) told.2), tt)));
+      order = c.order-order.ensures;
       same = refl;
       size_is = c.packed_length-size.ensures;
     } in
-    let done = making_done made c.in_ok-check_room.ensures c.enter_sheet.new.header c.write.new.index c.write.new.figures c.write.ensures c.enter_sheet.ensures.words in
+    let done = making_done made c.in_ok-check_room.ensures c.enter_sheet.new.header c.write.new.index c.write.new.figures c.write.ensures (rw c.last_end-end.ensures at c.enter_sheet.ensures.words) in
     (done.0, (c.enter_sheet.ensures.number, done.1))

@@ -18,7 +18,7 @@ returns-in_err-place g c =
 pub sheet_at-requires : goal.sheet_at-requires
 sheet_at-requires g c =
     let b : Arrays g.row.F.Denot = record { header = c.args.header.now; index = c.args.index.now; figures = c.args.figures.now } in
-    lying g.F.Arithmetic.figures b c.args.sheet c.in_ok-place.place c.in_ok-place.ensures
+    rw c.order-order.ensures (lying g.F.Arithmetic.figures b c.args.sheet c.in_ok-place.place c.in_ok-place.ensures)
 
 pub returns : goal.returns
 returns g c =

@@ -1,4 +1,4 @@
-use Rattle.std.proofs.Common.{[], ◌∷◌, refl, arith}
+use Rattle.std.proofs.Common.{[], ◌∷◌, refl, ◌∙◌, arith}
 use Rattle.matrix.specs.Tables.{product}
 use Rattle.book.specs.Book.{Arrays, order_of, sheet_table}
 use Rattle.book.specs.Lines.{pair_guard}
@@ -20,19 +20,19 @@ returns-in_err-one g c =
 pub split_at_mut-used-requires : goal.split_at_mut-used-requires
 split_at_mut-used-requires g c =
     let b : Arrays g.row.F.Denot = record { header = c.args.header.now; index = c.args.index.now; figures = c.args.figures.now } in
-    end_within b c.in_ok-one.ensures.0.sound.header_rules
+    rw c.last_end-end.ensures (end_within b c.in_ok-one.ensures.0.sound.header_rules)
 
 pub pair_at-pair-requires : goal.pair_at-pair-requires
 pair_at-pair-requires g c =
     let a = g.F.Arithmetic.figures in
     let b : Arrays g.row.F.Denot = record { header = c.args.header.now; index = c.args.index.now; figures = c.args.figures.now } in
     let found = c.in_ok-one.ensures in
-    let used = c.split_at_mut-used.ensures in
-    let used' = c.split_at_mut-used_figures.ensures in
+    let used = rw c.last_end-end.ensures at c.split_at_mut-used.ensures in
+    let used' = rw c.last_end-end.ensures at c.split_at_mut-used_figures.ensures in
     record {
-      first = lying_used a b c.args.first _ found.0 _ _ used.front used'.front;
-      second = lying_used a b c.args.second _ found.1 _ _ used.front used'.front;
-      small = (order_most a b found.0.sound, omega (arith, found.0.sound.small, used.back_len));
+      first = rw c.order-order.ensures (lying_used a b c.args.first _ found.0 _ _ used.front used'.front);
+      second = rw c.order-order.ensures (lying_used a b c.args.second _ found.1 _ _ used.front used'.front);
+      small = (rw c.order-order.ensures (order_most a b found.0.sound), omega (arith, found.0.sound.small, used.back_len));
     }
 
 pub product_length-size-requires : goal.product_length-size-requires
@@ -44,10 +44,10 @@ returns-in_err-check_room g c =
     let a = g.F.Arithmetic.figures in
     let b : Arrays g.row.F.Denot = record { header = c.args.header.now; index = c.args.index.now; figures = c.args.figures.now } in
     let found = c.in_ok-one.ensures in
-    let used = c.split_at_mut-used.ensures in
-    let used' = c.split_at_mut-used_figures.ensures in
+    let used = rw c.last_end-end.ensures at c.split_at_mut-used.ensures in
+    let used' = rw c.last_end-end.ensures at c.split_at_mut-used_figures.ensures in
     let pair = c.pair_at-pair.ensures in
-    let made = pair_making a b c.args.first c.args.second _ _ found (record { used_is = used.front; free_is = used.back; whole = used.value; used_is' = used'.front; free_is' = used'.back; whole' = used'.value }) (product a.ring) _ _ _ _ _ c.product_length-size.result pair.order pair.first_words pair.first_figures pair.second_words pair.second_figures c.product_length-size.ensures.size in
+    let made = pair_making a b c.args.first c.args.second _ _ found (record { used_is = used.front; free_is = used.back; whole = used.value; used_is' = used'.front; free_is' = used'.back; whole' = used'.value }) (product a.ring) _ _ _ _ _ c.product_length-size.result (pair.order ∙ c.order-order.ensures) pair.first_words pair.first_figures pair.second_words pair.second_figures c.product_length-size.ensures.size in
     let p = making_sent made c.from_residual-in_err-check_room.result c.in_err-check_room.field-0.0 c.from_residual-in_err-check_room.ensures.1 c.in_err-check_room.ensures in
     rw p.1 p.2
 
@@ -56,21 +56,21 @@ write_product-requires g c =
     let a = g.F.Arithmetic.figures in
     let b : Arrays g.row.F.Denot = record { header = c.args.header.now; index = c.args.index.now; figures = c.args.figures.now } in
     let found = c.in_ok-one.ensures in
-    let used = c.split_at_mut-used.ensures in
-    let used' = c.split_at_mut-used_figures.ensures in
+    let used = rw c.last_end-end.ensures at c.split_at_mut-used.ensures in
+    let used' = rw c.last_end-end.ensures at c.split_at_mut-used_figures.ensures in
     let pair = c.pair_at-pair.ensures in
-    let made = pair_making a b c.args.first c.args.second _ _ found (record { used_is = used.front; free_is = used.back; whole = used.value; used_is' = used'.front; free_is' = used'.back; whole' = used'.value }) (product a.ring) _ _ _ _ _ c.product_length-size.result pair.order pair.first_words pair.first_figures pair.second_words pair.second_figures c.product_length-size.ensures.size in
+    let made = pair_making a b c.args.first c.args.second _ _ found (record { used_is = used.front; free_is = used.back; whole = used.value; used_is' = used'.front; free_is' = used'.back; whole' = used'.value }) (product a.ring) _ _ _ _ _ c.product_length-size.result (pair.order ∙ c.order-order.ensures) pair.first_words pair.first_figures pair.second_words pair.second_figures c.product_length-size.ensures.size in
     record { arrays = making_arrays made; room = making_room made c.in_ok-check_room.ensures; idle = c.product_length-size.ensures.idle }
 
-pub overflow_add-end-2 : goal.overflow_add-end-2
-overflow_add-end-2 g c =
+pub overflow_add-end : goal.overflow_add-end
+overflow_add-end g c =
     let a = g.F.Arithmetic.figures in
     let b : Arrays g.row.F.Denot = record { header = c.args.header.now; index = c.args.index.now; figures = c.args.figures.now } in
     let found = c.in_ok-one.ensures in
-    let used = c.split_at_mut-used.ensures in
-    let used' = c.split_at_mut-used_figures.ensures in
+    let used = rw c.last_end-end.ensures at c.split_at_mut-used.ensures in
+    let used' = rw c.last_end-end.ensures at c.split_at_mut-used_figures.ensures in
     let pair = c.pair_at-pair.ensures in
-    let made = pair_making a b c.args.first c.args.second _ _ found (record { used_is = used.front; free_is = used.back; whole = used.value; used_is' = used'.front; free_is' = used'.back; whole' = used'.value }) (product a.ring) _ _ _ _ _ c.product_length-size.result pair.order pair.first_words pair.first_figures pair.second_words pair.second_figures c.product_length-size.ensures.size in
+    let made = pair_making a b c.args.first c.args.second _ _ found (record { used_is = used.front; free_is = used.back; whole = used.value; used_is' = used'.front; free_is' = used'.back; whole' = used'.value }) (product a.ring) _ _ _ _ _ c.product_length-size.result (pair.order ∙ c.order-order.ensures) pair.first_words pair.first_figures pair.second_words pair.second_figures c.product_length-size.ensures.size in
     omega (arith, making_end made c.in_ok-check_room.ensures)
 
 pub enter_sheet-requires : goal.enter_sheet-requires
@@ -78,20 +78,20 @@ enter_sheet-requires g c =
     let a = g.F.Arithmetic.figures in
     let b : Arrays g.row.F.Denot = record { header = c.args.header.now; index = c.args.index.now; figures = c.args.figures.now } in
     let found = c.in_ok-one.ensures in
-    let used = c.split_at_mut-used.ensures in
-    let used' = c.split_at_mut-used_figures.ensures in
+    let used = rw c.last_end-end.ensures at c.split_at_mut-used.ensures in
+    let used' = rw c.last_end-end.ensures at c.split_at_mut-used_figures.ensures in
     let pair = c.pair_at-pair.ensures in
-    let made = pair_making a b c.args.first c.args.second _ _ found (record { used_is = used.front; free_is = used.back; whole = used.value; used_is' = used'.front; free_is' = used'.back; whole' = used'.value }) (product a.ring) _ _ _ _ _ c.product_length-size.result pair.order pair.first_words pair.first_figures pair.second_words pair.second_figures c.product_length-size.ensures.size in
-    (found.0.sound.words, (found.2, making_end made c.in_ok-check_room.ensures))
+    let made = pair_making a b c.args.first c.args.second _ _ found (record { used_is = used.front; free_is = used.back; whole = used.value; used_is' = used'.front; free_is' = used'.back; whole' = used'.value }) (product a.ring) _ _ _ _ _ c.product_length-size.result (pair.order ∙ c.order-order.ensures) pair.first_words pair.first_figures pair.second_words pair.second_figures c.product_length-size.ensures.size in
+    (found.0.sound.words, (found.2, rw c.last_end-end.ensures (making_end made c.in_ok-check_room.ensures)))
 
 pub returns : goal.returns
 returns g c =
     let a = g.F.Arithmetic.figures in
     let b : Arrays g.row.F.Denot = record { header = c.args.header.now; index = c.args.index.now; figures = c.args.figures.now } in
     let found = c.in_ok-one.ensures in
-    let used = c.split_at_mut-used.ensures in
-    let used' = c.split_at_mut-used_figures.ensures in
+    let used = rw c.last_end-end.ensures at c.split_at_mut-used.ensures in
+    let used' = rw c.last_end-end.ensures at c.split_at_mut-used_figures.ensures in
     let pair = c.pair_at-pair.ensures in
-    let made = pair_making a b c.args.first c.args.second _ _ found (record { used_is = used.front; free_is = used.back; whole = used.value; used_is' = used'.front; free_is' = used'.back; whole' = used'.value }) (product a.ring) _ _ _ _ _ c.product_length-size.result pair.order pair.first_words pair.first_figures pair.second_words pair.second_figures c.product_length-size.ensures.size in
-    let done = making_done made c.in_ok-check_room.ensures c.enter_sheet.new.header c.write_product.new.index c.write_product.new.figures c.write_product.ensures c.enter_sheet.ensures.words in
+    let made = pair_making a b c.args.first c.args.second _ _ found (record { used_is = used.front; free_is = used.back; whole = used.value; used_is' = used'.front; free_is' = used'.back; whole' = used'.value }) (product a.ring) _ _ _ _ _ c.product_length-size.result (pair.order ∙ c.order-order.ensures) pair.first_words pair.first_figures pair.second_words pair.second_figures c.product_length-size.ensures.size in
+    let done = making_done made c.in_ok-check_room.ensures c.enter_sheet.new.header c.write_product.new.index c.write_product.new.figures c.write_product.ensures (rw c.last_end-end.ensures at c.enter_sheet.ensures.words) in
     (done.0, (c.enter_sheet.ensures.number, done.1))

@@ -1,4 +1,4 @@
-use Rattle.std.proofs.Common.{refl}
+use Rattle.std.proofs.Common.{refl, ◌∙◌}
 use Rattle.std.proofs.lemmas.Result.{err_from_is_err_and}
 use Rattle.matrix.specs.Vectors.{column_worked}
 use Rattle.book.specs.Book.{Arrays, order_of}
@@ -15,7 +15,7 @@ returns-in_err-place g c =
 pub sheet_at-sheet-requires : goal.sheet_at-sheet-requires
 sheet_at-sheet-requires g c =
     let b : Arrays g.row.F.Denot = record { header = c.args.header.now; index = c.args.index.now; figures = c.args.figures.now } in
-    lying g.F.Arithmetic.figures b c.args.sheet c.in_ok-place.place c.in_ok-place.ensures.0
+    rw c.order.ensures (lying g.F.Arithmetic.figures b c.args.sheet c.in_ok-place.place c.in_ok-place.ensures.0)
 
 pub returns : goal.returns
 returns g c =
@@ -23,4 +23,4 @@ returns g c =
     let b : Arrays g.row.F.Denot = record { header = c.args.header.now; index = c.args.index.now; figures = c.args.figures.now } in
     let place = c.in_ok-place.place in
     let sheet = c.sheet_at-sheet.ensures in
-    working_done a b c.args.sheet c.args.x.now c.args.out.now place.0 place.1 c.in_ok-place.ensures (λ t. column_worked a.ring (order_of b) t (vector a c.args.x.now)) c.work_columns.new.out (rw (sheet.order, sheet.words, sheet.figures) at c.work_columns.ensures)
+    working_done a b c.args.sheet c.args.x.now c.args.out.now place.0 place.1 c.in_ok-place.ensures (λ t. column_worked a.ring (order_of b) t (vector a c.args.x.now)) c.work_columns.new.out (rw (sheet.order ∙ c.order.ensures, sheet.words, sheet.figures) at c.work_columns.ensures)

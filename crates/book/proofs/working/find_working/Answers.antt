@@ -13,9 +13,7 @@ returns-in_err-check_book g c =
     rw p.1 p.2
 
 pub place_of-requires : goal.place_of-requires
-place_of-requires g c =
-    let sound = c.in_ok-check_book.ensures in
-    (sound.words, omega (arith, few _ _ sound.header_rules))
+place_of-requires g c = omega (arith, few _ _ c.in_ok-check_book.ensures.header_rules)
 
 pub returns : goal.returns
 returns g c =
