@@ -81,8 +81,8 @@ pub fn columns<'a, F: Arithmetic>(
     Ok(&index[from..to])
 }
 
-// One function for both arrays would not be shorter: it would be these two lines under a third name.
 // The figures of the off-diagonal cells of a row of a sheet, in the order of their columns.
+// One function for both arrays would be these two lines under a third name.
 pub fn figures<'a, F: Arithmetic>(
     header: &'a [u32],
     index: &'a [u32],

@@ -36,7 +36,7 @@ pub fn product_length<F: Arithmetic>(pair: &Pair<'_, F>, meetings: &mut Meetings
     length
 }
 
-// Writes the packed form of the product of two sheets.
+// Writes the packed form of the product of two sheets. `sum` says why it and the sum do not go by one trait.
 pub fn write_product<F: Arithmetic>(
     pair: &Pair<'_, F>,
     index: &mut [u32],

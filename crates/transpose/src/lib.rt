@@ -13,7 +13,7 @@ ghost use Rattle.transpose.specs.Flipping.{hits, HeadLaid};
 use arithmetic::Arithmetic;
 use sheet::{Sheet, start_row};
 
-// How often each column stands in a sheet off the diagonal.
+// How often each column stands in a sheet off the diagonal: in an array of fixed length, since the library takes no heap.
 fn count_columns<F: Arithmetic>(sheet: &Sheet<'_, F>) -> [u32; 1024]
     requires small { (sheet.now.order ≤ 1024) × (length sheet.now.words.now ≤ 65536) }
     ensures { (c : ℕ) → c < 1024 → slice_index result c ≡ hits sheet.now.words.now c (sheet.now.order + 1) (length sheet.now.words.now - (sheet.now.order + 1)) }

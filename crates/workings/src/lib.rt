@@ -57,9 +57,9 @@ fn scatter_row<F: Arithmetic>(sheet: &Sheet<'_, F>, i: usize, factor: F, out: &m
     }
 }
 
-// Row working is no column working of the flipped sheet: it keeps the order of its factors, and reads the sheet as it is.
 // y times the sheet: out(j) becomes the sum of y(i) × cell(i, j) over the rows i. The diagonal is written
 // first, and then the other cells are added row by row.
+// This is no column working of the flipped sheet: it keeps the order of its factors, and reads the sheet as it is.
 pub fn work_rows<F: Arithmetic>(sheet: &Sheet<'_, F>, y: &[F], out: &mut [F])
     requires { (length y.now ≡ sheet.now.order) × (length out.old ≡ sheet.now.order) }
     ensures { meanings F.Arithmetic.figures out.new ≡ map (row_worked F.Arithmetic.figures.ring sheet.now.order (figure_at F.Arithmetic.figures.ring (meanings F.Arithmetic.figures y.now)) (table_of sheet.now)) (range_with_len 0 sheet.now.order) }
