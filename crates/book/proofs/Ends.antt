@@ -1,5 +1,5 @@
 -- The last end of a book, and one more sheet after it.
-use Rattle.std.proofs.Common.{◌≡◌, ℕ, zero, suc, ◌+◌, ◌<◌, ◌≤◌, List, ◌++◌, length, take, drop, set, sym, refl, ap, ap₂, ◌∙◌, inl, inr, ⊎_elim, arith}
+use Rattle.std.proofs.Common.{◌≡◌, ℕ, zero, suc, ◌+◌, ◌<◌, ◌≤◌, List, [], ◌∷◌, ◌++◌, length, take, drop, set, sym, refl, ap, ap₂, ◌∙◌, inl, inr, ⊎_elim, arith}
 use Rattle.std.proofs.lemmas.Bool.{cases_lt, cases_eq}
 use Rattle.std.proofs.lemmas.List.{drop-drop}
 use Rattle.arithmetic.specs.Semiring.{Figures}
@@ -9,8 +9,8 @@ use Rattle.sheet.specs.Packed.{packed_length, packed_index}
 use Rattle.sheet.specs.Writing.{Written}
 use Rattle.sheet.proofs.Same.{index_long, figures_long_too}
 use Rattle.book.specs.Book.{Arrays, OneMore, order_of, sheets_of, capacity, last_end}
-use Rattle.sheet.specs.declared.refusal.Refusal.TheVariants.{Lengths, Full, Room}
-use Rattle.book.specs.Lines.{Passes, list_lengths, full, room}
+use Rattle.sheet.specs.declared.refusal.Refusal.TheVariants.{Lengths, Sheet, Full, Room}
+use Rattle.book.specs.Lines.{Passes, FirstMissing, line, list_lengths, full, room}
 use Rattle.book.specs.Checked.{Headed}
 use Rattle.book.proofs.Starts.{lies}
 
@@ -38,12 +38,18 @@ module _ {S : Type 0} (a : Figures S) (b : Arrays S) (t : Table a.F) (used free 
         figures = ap₂ ◌++◌ ue' (p.figures ∙ ap (λ z. p.stored ++ z) (ap₂ drop wide fe' ∙ drop-drop (packed_length a.ring (order_of b) t) (last_end b) b.figures));
       }
 
--- what it means that a sheet fits, and that there is a number for it
+-- what it means that a sheet fits, that it is there, and that there is a number for it
 pub fits_from : (size left : ℕ) → Passes (room size left) → size ≤ left
 fits_from size left pass = ⊎_elim
     (λ (h : left < size). absurd (pass (Room size) (size, refl, (refl, h))))
     (λ (h : size ≤ left). h)
     (cases_lt left size)
+
+pub there_from : (sheets k : ℕ) → Passes (line Sheet (FirstMissing sheets (k ∷ []))) → k < sheets
+there_from sheets k pass = ⊎_elim
+    (λ (h : k < sheets). h)
+    (λ (h : sheets ≤ k). absurd (pass (Sheet k) (k, refl, inl (h, refl))))
+    (cases_lt k sheets)
 
 pub few_from : (sheets : ℕ) → sheets ≤ 16 → Passes (full sheets) → sheets < 16
 few_from sheets few pass = ⊎_elim

@@ -26,6 +26,9 @@ few header capacity keep = (keep 1 (omega arith)).sheets refl
 abbrev pub SheetsKeep : {S : Type 0} → Figures S → Arrays S → ℕ → Type 0
 SheetsKeep a b k = (j : ℕ) → j < k → (p : ℕ) → p < length (sheet_index b j) → Rule a.ring (order_of b) (sheet_index b j) (sheet_figures a b j) p
 
+pub none_keep : {S : Type 0} (a : Figures S) (b : Arrays S) → SheetsKeep a b 0
+none_keep a b j low = absurd (omega arith)
+
 module _ {S : Type 0} (a : Figures S) (b : Arrays S) (h : Headed b) where
   pub starts_rise : (i j : ℕ) → i ≤ j → j ≤ sheets_of b → start_of b i ≤ start_of b j
   starts_rise i zero low high = let e : i ≡ 0 = omega arith in rw e (omega arith)

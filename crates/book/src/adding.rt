@@ -22,14 +22,9 @@ pub(crate) fn find_pair<F: Arithmetic>(
 {
     check_book(header, index, figures)?;
     let header = Header { words: header };
-    let sheets = header.sheets();
-    if first >= sheets {
-        return Err(Refusal::Sheet(first));
-    }
-    if second >= sheets {
-        return Err(Refusal::Sheet(second));
-    }
-    check_full(sheets)?;
+    header.check_there(first)?;
+    header.check_there(second)?;
+    check_full(header.sheets())?;
     Ok((header.place_of(first), header.place_of(second)))
 }
 

@@ -1,5 +1,10 @@
 // The words of a header, by what they say.
-ghost use Rattle.std.specs.Prelude.{◌≡◌, ◌+◌, ◌<◌, ◌≤◌, length, slice_index};
+ghost use Rattle.std.specs.Prelude.{◌≡◌, ◌+◌, ◌<◌, ◌≤◌, [], ◌∷◌, length, slice_index};
+ghost use Rattle.sheet.specs.declared.refusal.Refusal.TheVariants.{Sheet};
+ghost use Rattle.book.specs.Lines.{line, FirstMissing};
+ghost use Rattle.book.specs.Checked.{LineChecked};
+
+use sheet::Refusal;
 
 // A header as long as it should be.
 #[derive(Drop)]
@@ -20,6 +25,16 @@ impl Header<'_> {
         ensures { result ≡ slice_index self.now.words.now 1 }
     {
         self.words[1] as usize
+    }
+
+    // Whether the book has this sheet.
+    pub(crate) fn check_there(&self, sheet: usize) -> Result<(), Refusal>
+        ensures { LineChecked (line Sheet (FirstMissing (slice_index self.now.words.now 1) (sheet ∷ []))) result }
+    {
+        if sheet >= self.sheets() {
+            return Err(Refusal::Sheet(sheet));
+        }
+        Ok(())
     }
 
     // The start of a sheet, which is the end of the sheet before it.

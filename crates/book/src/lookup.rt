@@ -18,9 +18,7 @@ pub(crate) fn find_sheet<F: Arithmetic>(
 {
     check_book(header, index, figures)?;
     let header = Header { words: header };
-    if sheet >= header.sheets() {
-        return Err(Refusal::Sheet(sheet));
-    }
+    header.check_there(sheet)?;
     Ok(header.place_of(sheet))
 }
 

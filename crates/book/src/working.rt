@@ -28,9 +28,7 @@ fn find_working<F: Arithmetic>(
     if out.len() != order {
         return Err(Refusal::Lengths(1));
     }
-    if sheet >= header.sheets() {
-        return Err(Refusal::Sheet(sheet));
-    }
+    header.check_there(sheet)?;
     Ok(header.place_of(sheet))
 }
 

@@ -2,7 +2,7 @@ use Rattle.std.proofs.Common.{◌≡◌, get_or, inl, inr, arith, below_more}
 use Rattle.std.proofs.lemmas.Result.{err_from_is_err_and}
 use Rattle.book.specs.Book.{Arrays}
 use Rattle.book.proofs.Passing.{layout_passes, header_passes}
-use Rattle.book.proofs.Starts.{lies, few, all_keep, first_break}
+use Rattle.book.proofs.Starts.{lies, few, none_keep, all_keep, first_break}
 use Rattle.book.proofs.check.check_book.Goals as goal
 
 pub returns-in_err-check_header : goal.returns-in_err-check_header
@@ -14,7 +14,7 @@ returns-in_err-check_header g c =
 pub loop-k-init : goal.loop-k-init
 loop-k-init g c =
     let headed = c.in_ok-check_header.ensures in
-    (few _ _ headed, lies _ _ headed, λ j h. absurd (omega arith))
+    (few _ _ headed, lies _ _ headed, none_keep _ _)
 
 pub returns-in_err-check_sheet : goal.returns-in_err-check_sheet
 returns-in_err-check_sheet g c =

@@ -2,6 +2,7 @@ use Rattle.std.proofs.Common.{[], ◌∷◌, arith}
 use Rattle.book.specs.Book.{Arrays}
 use Rattle.book.specs.Lines.{missing}
 use Rattle.book.proofs.Early.{early}
+use Rattle.book.proofs.Ends.{there_from}
 use Rattle.book.proofs.Starts.{few}
 use Rattle.book.proofs.Sheets.{sheet_lies}
 use Rattle.book.proofs.lookup.find_sheet.Goals as goal
@@ -13,9 +14,9 @@ returns-in_err-check_book g c =
     rw p.1 p.2
 
 pub place_of-requires : goal.place_of-requires
-place_of-requires g c = omega (arith, few _ _ c.in_ok-check_book.ensures.header_rules)
+place_of-requires g c = omega (arith, few _ _ c.in_ok-check_book.ensures.header_rules, there_from _ _ c.in_ok-check_there.ensures)
 
 pub returns : goal.returns
 returns g c =
     let b : Arrays g.row.F.Denot = record { header = c.args.header.now; index = c.args.index.now; figures = c.args.figures.now } in
-    rw c.place_of.ensures (sheet_lies g.F.Arithmetic.figures b c.in_ok-check_book.ensures c.args.sheet (omega arith))
+    rw c.place_of.ensures (sheet_lies g.F.Arithmetic.figures b c.in_ok-check_book.ensures c.args.sheet (there_from _ _ c.in_ok-check_there.ensures))
