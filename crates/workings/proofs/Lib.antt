@@ -1,1 +1,2 @@
 pub mod Scatters
+pub mod Parts

@@ -1,5 +1,5 @@
-// A sound sheet times a vector, and a vector times a sound sheet. Only stored cells are read. A row is walked by its
-// positions, since each pairs a word with a figure.
+// A sound sheet times a vector, and a vector times a sound sheet. Only stored cells are read: a row is walked by its
+// words and its figures together.
 #![tactic(auto)]
 
 ghost use Rattle.std.specs.Prelude.{◌≡◌, ℕ, ◌<◌, map, length};
@@ -19,8 +19,8 @@ fn work_column<F: Arithmetic>(sheet: &Sheet<'_, F>, x: &[F], i: usize) -> F
 {
     let mut total = sheet.figures[i].multiply(x[i]);
     let (from, to) = sheet.row(i);
-    for p in from..to {
-        total = total.add(sheet.figures[p].multiply(x[sheet.words[p] as usize]));
+    for (word, figure) in sheet.words[from..to].iter().zip(&sheet.figures[from..to]) {
+        total = total.add(figure.multiply(x[*word as usize]));
     }
     total
 }
@@ -51,9 +51,9 @@ fn scatter_row<F: Arithmetic>(sheet: &Sheet<'_, F>, i: usize, factor: F, out: &m
     ensures { Grew F.Arithmetic.figures.ring sheet.now.order (λ j. F.Arithmetic.figures.ring.mul (F.Arithmetic.figures.meaning factor) (off_cell F.Arithmetic.figures.ring sheet.now.words.now (meanings F.Arithmetic.figures sheet.now.figures.now) i j)) (meanings F.Arithmetic.figures out.old) (meanings F.Arithmetic.figures out.new) }
 {
     let (from, to) = sheet.row(i);
-    for p in from..to {
-        let j = sheet.words[p] as usize;
-        out[j] = out[j].add(factor.multiply(sheet.figures[p]));
+    for (word, figure) in sheet.words[from..to].iter().zip(&sheet.figures[from..to]) {
+        let j = *word as usize;
+        out[j] = out[j].add(factor.multiply(*figure));
     }
 }
 

@@ -1,8 +1,9 @@
+use Rattle.std.proofs.Common.{◌+◌, length}
 use Rattle.arithmetic.specs.Semiring.{meanings}
 use Rattle.workings.proofs.Scatters.{Scattered}
 use Rattle.workings.proofs.scatter_row.Given as goal
 
-abbrev pub invariant-loop-p : goal.invariant-loop-p
-invariant-loop-p g l =
+abbrev pub invariant-loop-word : goal.invariant-loop-word
+invariant-loop-word g l =
     let a = g.F.Arithmetic.figures in
-    Scattered a.ring l.sheet.order l.sheet.words.now (meanings a l.sheet.figures.now) l.i (a.meaning l.factor) (meanings a l.fn.out) (meanings a l.out) l.p
+    Scattered a.ring l.sheet.order l.sheet.words.now (meanings a l.sheet.figures.now) l.i (a.meaning l.factor) (meanings a l.fn.out) (meanings a l.out) (l.from + length l.yielded)
