@@ -23,11 +23,13 @@ show '2a functions that only lend parts of arrays to another' "$(src | xargs gre
 found '2b functions that differ in a call, a type or a constant' 'fn (states_commuting|next_column|next_stored|columns|figures|column_working|row_working|work_columns|work_rows|carry_back|carry_forward|answer_column_working|answer_row_working|end_of_line|end_of_input|number_at|capacity_at|figure_at|with_word|with_index|with_figure|read_line|amounts|write_added|added_length|write_product|product_length|row_size)(<|\()'
 found '3a a loop with a counter of its own' '^[[:space:]]*while '
 found '3b a loop over indices' 'for \(?[a-z_, ]+\)? in [^{]*\.\.'
+found '3c where a row lies, written out' 'words\[[a-z]+\] as usize\.\.(self\.|sheet\.)?words\[[a-z]+ \+ 1\] as usize'
 found '4a an impl of a derivable or conversion trait' '^impl.* (fmt::Display|fmt::Debug|From<.*>|PartialEq|PartialOrd|Ord|Clone|Copy|Default|Hash) for'
 found '4b a conversion that is a method' 'fn (new|value|number|place|in_days|told|amounts|blocks|waits)\('
 found '5a a clause that says that a sheet is sound or paired' '(requires|ensures).*(Sound F|length (figures|first_figures|second_figures)\.(now|old) ≡ length (words|index|first|second)\.)'
 found '5b a parameter that is a part of a sheet, of a pair or of a list of entries' '^[[:space:]]+(words|first_end|first_figures|columns): (&|usize)|words: &\[u32\]'
 found '5c a call on a book, by its three arrays' '^[[:space:]]+header2?: |header: &'
+found '5d a word of a header, by its place' 'header\[[0-9]'
 found '6 an array of fixed length' ': \[[A-Za-z0-9_]+; [0-9A-Z]+\]|-> \[[A-Za-z0-9_]+; [0-9A-Z]+\]'
 found '7 a switch on what to do' 'match (command|call|self|part|line\.head|sent\.refusal|\(self)'
 show '8 answers in proofs' "$(find crates -path '*/proofs/*' -name Answers.antt -not -path '*/out/*' | sort | xargs grep -n '^pub ')"

@@ -1,5 +1,4 @@
-// The numbers that bound a book. A header is lent as a slice, so what reads or writes one asks that it has so many words:
-// an array of them would have to be made of the slice in each call anew.
+// The numbers that bound a book.
 pub(crate) const HEADER_WORDS: usize = 19;
 
 pub(crate) const MOST_SHEETS: usize = 16;
