@@ -26,7 +26,8 @@ pub(crate) fn check_room(size: usize, left: usize) -> Result<(), Refusal>
     Ok(())
 }
 
-// Enters one more sheet, which ends at `end`, into the header, and answers its number.
+// Enters one more sheet, which ends at `end`, into the header, and answers its number. The words are written by place, as
+// in `open` and `strike`: `Header` is for reading.
 pub(crate) fn enter_sheet(header: &mut [u32], end: usize) -> usize
     requires { (length header.old ≡ 19) × ((slice_index header.old 1 < 16) × (end ≤ 65536)) }
     ensures number { result ≡ slice_index header.old 1 }

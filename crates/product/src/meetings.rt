@@ -68,6 +68,7 @@ impl Meetings {
     {
         let (from, to) = pair.second.row(k);
         self.push(k, left, k);
+        // By place, which is what a meeting holds.
         for q in from..to {
             self.push(pair.second.words[q] as usize, left, q);
         }
@@ -96,6 +97,7 @@ impl Meetings {
         requires { (g : ℕ) → slice_index self.now.touched g < 2 ^ 64 }
         ensures { NextTouched self.now.touched from result }
     {
+        // By number, from which the column is told.
         for group in from / 64..16 {
             let first = from.max(group * 64);
             let bits = self.touched[group] >> (first % 64);

@@ -93,6 +93,7 @@ impl Line<'_> {
 
     // Reads the words after the head, one at least, as figures, and adds them to `list`.
     pub(crate) fn read_figures<F: Figure>(&self, list: &mut Vec<F>) -> Result<(), Fault> {
+        // By place, so that the first word is asked for also where there is none.
         for place in 0..self.rest.len().max(1) {
             list.push(self.figure_at(place)?)?;
         }
