@@ -1,6 +1,5 @@
 -- The product of two sheets, written row by row.
 use Rattle.std.proofs.Common.{◌≡◌, ℕ, ◌+◌, ◌<◌, ◌≤◌, List, length, Some, None, refl, arith}
-use Rattle.arithmetic.specs.Semiring.{meanings}
 use Rattle.arithmetic.specs.declared.Arithmetic.{Ghosts}
 use Rattle.sheet.specs.declared.sound.Pair.{Pair}
 use Rattle.sheet.specs.Packed.{packed_length}
@@ -8,8 +7,8 @@ use Rattle.sheet.specs.Writing.{RowStarted, EntryWritten}
 use Rattle.sheet.proofs.Laying.{Laying, head_room, spot_within, laying_entry, laying_room, laying_row, laying_skip}
 use Rattle.product.specs.declared.meetings.Meetings.{Meetings}
 use Rattle.sheet.specs.declared.sound.RowCell.{RowCell}
-use Rattle.product.specs.Meetings.{Lists, NextCell, pair_product}
-use Rattle.product.proofs.Resting.{Rest, rest_none, from_is, cell_from, cell_below, cell_gap, cell_is, rest_more, end_gap}
+use Rattle.product.specs.Meetings.{NextCell, pair_product}
+use Rattle.product.proofs.Resting.{Rest, from_is, cell_from, cell_below, cell_gap, cell_is, rest_more, end_gap}
 
 module _ {S : Type 0} {g : Ghosts S} (pair : Pair S g) (ws : List ℕ) (fs : List S) where
   abbrev n : ℕ
@@ -23,9 +22,6 @@ module _ {S : Type 0} {g : Ghosts S} (pair : Pair S g) (ws : List ℕ) (fs : Lis
   pub record Multiplying (row : ℕ) (m : Meetings) (ws' : List ℕ) (fs' : List S) (at : ℕ) : Type 0 where
     pub laid : Laid row m.from ws' fs' at
     pub rest : Rest pair row m
-
-  pub multiplying_none : (row : ℕ) (m : Meetings) → (m.from ≡ 0) → Lists g.figures.ring (meanings g.figures pair.first.figures.now) (meanings g.figures pair.second.figures.now) m n (pair_product pair row) → (ws' : List ℕ) (fs' : List S) (at : ℕ) → Laid row 0 ws' fs' at → Multiplying row m ws' fs' at
-  multiplying_none row m whole ls ws' fs' at l = record { laid = rw whole l; rest = rest_none pair row m whole ls }
 
   module _ (room : packed_length g.figures.ring n (pair_product pair) ≤ length ws) (level : length fs ≡ length ws) where
     pub heads_fit : n + 1 ≤ length ws

@@ -10,7 +10,7 @@ use Rattle.sheet.proofs.Columns.{columns_yes, columns_no}
 use Rattle.sheet.proofs.Lists.{columns_quiet}
 use Rattle.product.specs.declared.meetings.Meetings.{Meetings}
 use Rattle.sheet.specs.declared.sound.RowCell.{RowCell}
-use Rattle.product.specs.Meetings.{taken, Idle, Linked, Marked, list_sum, Lists, NextCell, pair_product}
+use Rattle.product.specs.Meetings.{taken, Idle, Linked, Marked, list_sum, NextCell, pair_product}
 
 module _ {S : Type 0} {g : Ghosts S} (pair : Pair S g) where
   abbrev s : Semiring g.figures.F
@@ -37,9 +37,6 @@ module _ {S : Type 0} {g : Ghosts S} (pair : Pair S g) where
       pub marked : Marked n m
       pub past : (c : ℕ) → c < m.from → get_or m.head c 0 ≡ 0
       pub sums : (c : ℕ) → m.from ≤ c → c < n → list_sum s fs gs m (get_or m.head c 0) ≡ v c
-
-    pub rest_none : (m : Meetings) → m.from ≡ 0 → Lists s fs gs m n v → Rest m
-    rest_none m whole ls = record { high = omega arith; linked = ls.linked; marked = ls.marked; past = λ c h. absurd (omega arith); sums = λ c from h. ls.sums c h }
 
     -- how many cells of row i before column c are stored
     abbrev pub stored_before : ℕ → ℕ

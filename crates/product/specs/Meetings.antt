@@ -1,10 +1,9 @@
 -- The pairs of stored cells that meet in one row of a product, a list for each column: numbers only.
-use Rattle.std.specs.Prelude.{◌≡◌, ℕ, zero, suc, ◌+◌, ◌/◌, ◌%◌, ◌^◌, ◌<◌, ◌≤◌, min, cond, List, length, replicate, Some, None, Option, bit_or, nat_le, slice_index, slice_index_or, slice_set}
+use Rattle.std.specs.Prelude.{◌≡◌, ℕ, zero, suc, ◌+◌, ◌/◌, ◌%◌, ◌^◌, ◌<◌, ◌≤◌, List, length, replicate, Some, None, Option, bit_or, slice_index, slice_index_or, slice_set}
 use Rattle.arithmetic.specs.Semiring.{Semiring, Figures, meanings}
 use Rattle.arithmetic.specs.declared.Arithmetic.{Ghosts}
 use Rattle.matrix.specs.Tables.{Table, product}
 use Rattle.sheet.specs.Packed.{table}
-use Rattle.sheet.specs.Cursors.{column_of}
 use Rattle.sheet.specs.declared.sound.Pair.{Pair}
 use Rattle.product.specs.declared.meetings.Meeting.{Meeting}
 use Rattle.product.specs.declared.meetings.Meetings.{Meetings}
@@ -98,15 +97,6 @@ NextCell a n fs gs m (Some cell) m' =
     (m.from ≤ cell.column) × (cell.column < n) × ((j : ℕ) → m.from ≤ j → j < cell.column → slice_index m.head j ≡ 0)
     × (a.meaning cell.figure ≡ list_sum a.ring (meanings a fs) (meanings a gs) m (slice_index m.head cell.column)) × (m' ≡ taken cell.column m)
 NextCell a n fs gs m None m' = ((j : ℕ) → m.from ≤ j → j < n → slice_index m.head j ≡ 0) × (m' ≡ m)
-
--- the next column of row i, from `from` on, that a sheet or the diagonal has; n if there is none
-abbrev pub next_stored_of : List ℕ → ℕ → ℕ → ℕ → ℕ → ℕ
-next_stored_of ws n i from p = min (column_of ws n i p) (cond (nat_le from i) i n)
-
--- the same as an option. None where no column from there on is stored
-abbrev pub NextStored : List ℕ → ℕ → ℕ → ℕ → ℕ → Option ℕ → Type 0
-NextStored ws n i from p (Some k) = (k ≡ next_stored_of ws n i from p) × (k < n)
-NextStored ws n i from p None = n ≤ next_stored_of ws n i from p
 
 -- the table of the product of two sheets
 abbrev pub multiplied : {S : Type 0} (a : Figures S) → ℕ → List ℕ → List S → List ℕ → List S → Table a.F

@@ -1,9 +1,9 @@
 ghost use Rattle.std.specs.Prelude.{◌≡◌, ℕ, ◌+◌, ◌-◌, ◌^◌, ◌<◌, ◌≤◌, length, slice_index};
 ghost use Rattle.arithmetic.specs.Semiring.{meanings};
-ghost use Rattle.product.specs.Meetings.{meeting, pushed, cleared, Idle, Linked, Marked, list_sum, Lists, NextTouched, NextCell, NextStored, pair_product};
+ghost use Rattle.product.specs.Meetings.{meeting, pushed, cleared, Idle, Linked, Marked, list_sum, Lists, NextTouched, NextCell, pair_product};
 
 use arithmetic::Arithmetic;
-use sheet::{Pair, RowCell, Sheet, advanced};
+use sheet::{Pair, RowCell};
 
 // Two stored cells that meet: where they stand in their sheets, and the meeting before theirs in the list of its
 // column. No meeting is 0, so `before` is 0 at a list's end: an option of it would take four bytes in place of two.
@@ -82,13 +82,11 @@ impl Meetings {
         ensures lists { Lists F.Arithmetic.figures.ring (meanings F.Arithmetic.figures pair.now.first.figures.now) (meanings F.Arithmetic.figures pair.now.second.figures.now) self.new pair.now.first.order (pair_product pair.now i) }
     {
         self.clear();
-        let mut p = pair.first.words[i] as usize;
-        let mut from = 0;
-        while let Some(k) = next_stored(&pair.first, i, from, p) {
-            let at = pair.first.spot(i, k, p);
-            self.push_row(pair, k, at);
-            p = advanced(p, at);
-            from = k + 1;
+        self.push_row(pair, i, i);
+        let (from, to) = pair.first.row(i);
+        // By place, which is what a meeting holds.
+        for p in from..to {
+            self.push_row(pair, pair.first.words[p] as usize, p);
         }
     }
 
@@ -150,19 +148,4 @@ impl Meetings {
         self.count = 0;
         self.from = 0;
     }
-}
-
-// The next column of row i, from `from` on, that the sheet or the diagonal has.
-fn next_stored<F: Arithmetic>(
-    sheet: &Sheet<'_, F>,
-    i: usize,
-    from: usize,
-    p: usize,
-) -> Option<usize>
-    requires { i < sheet.now.order }
-    ensures { NextStored sheet.now.words.now sheet.now.order i from p result }
-{
-    let diagonal = if from <= i { i } else { sheet.order };
-    let column = sheet.column_at(i, p).min(diagonal);
-    (column < sheet.order).then_some(column)
 }

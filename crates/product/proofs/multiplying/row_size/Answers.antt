@@ -1,11 +1,6 @@
-use Rattle.std.proofs.Common.{refl, arith}
-use Rattle.product.proofs.Resting.{rest_none, from_is, cell_from, rest_more, size_more, size_all}
+use Rattle.std.proofs.Common.{arith}
+use Rattle.product.proofs.Resting.{from_is, cell_from, rest_more, size_more, size_all}
 use Rattle.product.proofs.multiplying.row_size.Goals as goal
-
-pub loop-cell-init : goal.loop-cell-init
-loop-cell-init g c =
-    let whole = c.meet_row.ensures.whole in
-    (rest_none c.args.pair.now c.args.i c.meet_row.new.self whole c.meet_row.ensures.lists, rw whole refl, omega arith)
 
 pub loop-cell-preserved : goal.loop-cell-preserved
 loop-cell-preserved g c =

@@ -2,7 +2,7 @@ use Rattle.std.proofs.Common.{arith}
 use Rattle.sheet.proofs.Laying.{laying_start, laying_all}
 use Rattle.product.specs.Meetings.{pair_product}
 use Rattle.product.proofs.Resting.{rest_all}
-use Rattle.product.proofs.Multiplies.{heads_fit, multiplying_none, cell_room, multiplying_more, row_end, row_laid}
+use Rattle.product.proofs.Multiplies.{heads_fit, cell_room, multiplying_more, row_end, row_laid}
 use Rattle.product.proofs.multiplying.write_product.Goals as goal
 
 pub start_row-requires : goal.start_row-requires
@@ -26,9 +26,6 @@ pub write_entry-at-requires-clause-room : goal.write_entry-at-requires-clause-ro
 write_entry-at-requires-clause-room g c = λ off some.
     let low = cell_room c.args.pair.now c.args.index.now c.args.figures.now c.requires.room (omega arith) c.loop-row.row c.loop-row-test.true c.loop-cell.invariant c.in-Some.cell c.next_cell.new.self c.in-Some.ensures off some in
     omega arith
-
-pub loop-cell-init : goal.loop-cell-init
-loop-cell-init g c = multiplying_none c.args.pair.now c.args.index.now c.args.figures.now c.loop-row.row c.meet_row.new.self c.meet_row.ensures.whole c.meet_row.ensures.lists c.loop-row.index c.loop-row.figures c.loop-row.at c.loop-row.invariant.0
 
 pub loop-cell-preserved : goal.loop-cell-preserved
 loop-cell-preserved g c = multiplying_more c.args.pair.now c.args.index.now c.args.figures.now c.requires.room (omega arith) c.loop-row.row c.loop-row-test.true c.loop-cell.invariant c.in-Some.cell c.next_cell.new.self c.in-Some.ensures c.write_entry-at.new.index c.write_entry-at.new.figures c.write_entry-at.result c.write_entry-at.ensures

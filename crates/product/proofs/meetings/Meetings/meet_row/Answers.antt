@@ -1,24 +1,28 @@
 use Rattle.std.proofs.Common.{arith}
-use Rattle.product.proofs.Linking.{linking_none, linking_more, linking_all, at_within, place_within, row_room}
+use Rattle.product.proofs.Linking.{first_room, linking_first, linking_all, column_low, row_room, linking_more}
 use Rattle.product.proofs.meetings.Meetings.meet_row.Goals as goal
 
-pub loop-k-init : goal.loop-k-init
-loop-k-init g c = linking_none c.args.pair.now c.args.i c.requires.row c.args.self.now c.clear.new.self c.clear.ensures c.requires.idle
-
-pub push_row-requires-clause-cell : goal.push_row-requires-clause-cell
-push_row-requires-clause-cell g c = (
-  omega (arith, c.args.pair.now.one_order, c.in-Some.ensures.1),
-  at_within c.args.pair.now c.args.i c.requires.row c.loop-k.invariant c.in-Some.k c.in-Some.ensures c.spot-at.result c.spot-at.ensures,
-)
-
 pub push_row-requires-clause-room : goal.push_row-requires-clause-room
-push_row-requires-clause-room g c = row_room c.args.pair.now c.args.i c.requires.row c.loop-k.invariant c.in-Some.k c.in-Some.ensures c.spot-at.result c.spot-at.ensures
+push_row-requires-clause-room g c = first_room c.args.pair.now c.args.i c.requires.row c.args.self.now c.clear.new.self c.clear.ensures
 
-pub advanced-p-requires : goal.advanced-p-requires
-advanced-p-requires g c = omega (arith, place_within c.args.pair.now c.args.i c.requires.row c.loop-k.invariant, c.args.pair.now.small_first)
+pub loop-p-init : goal.loop-p-init
+loop-p-init g c = rw c.row-from.ensures.from (linking_first c.args.pair.now c.args.i c.requires.row c.args.self.now c.clear.new.self c.push_row.new.self c.requires.idle c.clear.ensures c.push_row.ensures)
 
-pub loop-k-preserved : goal.loop-k-preserved
-loop-k-preserved g c = linking_more c.args.pair.now c.args.i c.requires.row c.loop-k.invariant c.in-Some.k c.in-Some.ensures c.spot-at.result c.spot-at.ensures c.push_row.new.self c.push_row.ensures c.advanced-p.result c.advanced-p.ensures
+pub push_row-requires-in-loop-p-clause-cell : goal.push_row-requires-in-loop-p-clause-cell
+push_row-requires-in-loop-p-clause-cell g c =
+    let row = c.row-from.ensures in
+    let low = column_low c.args.pair.now c.args.i c.requires.row c.loop-p.invariant (omega (arith, row.from)) (omega (arith, row.to)) in
+    (omega (arith, c.args.pair.now.one_order), omega (arith, row.within))
+
+pub push_row-requires-in-loop-p-clause-room : goal.push_row-requires-in-loop-p-clause-room
+push_row-requires-in-loop-p-clause-room g c =
+    let row = c.row-from.ensures in
+    row_room c.args.pair.now c.args.i c.requires.row c.loop-p.invariant (omega (arith, row.from)) (omega (arith, row.to))
+
+pub loop-p-preserved : goal.loop-p-preserved
+loop-p-preserved g c =
+    let row = c.row-from.ensures in
+    linking_more c.args.pair.now c.args.i c.requires.row c.loop-p.invariant (omega (arith, row.from)) (omega (arith, row.to)) c.push_row-in-loop-p.new.self c.push_row-in-loop-p.ensures
 
 pub returns-clause-lists : goal.returns-clause-lists
-returns-clause-lists g c = linking_all c.args.pair.now c.args.i c.requires.row c.loop-k.invariant c.in_default.ensures
+returns-clause-lists g c = linking_all c.args.pair.now c.args.i c.requires.row c.loop-p.invariant (omega (arith, c.row-from.ensures.to))
