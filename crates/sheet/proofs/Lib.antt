@@ -14,3 +14,4 @@ pub mod Known
 pub mod Diagonals
 pub mod Cursors
 pub mod Pairs
+pub mod Cells

@@ -1,9 +1,14 @@
 // Sound sheets, in the slices of two arrays where they lie.
 ghost use Rattle.std.specs.Prelude.{◌≡◌, ◌+◌, ◌^◌, ◌<◌, ◌≤◌, length, slice_index, slice_index_or};
+ghost use Rattle.std.specs.Iterator.Adapters.{zip_first, zip_second};
+ghost use Rattle.std.specs.Slice.Iter.{iter_rest};
 ghost use Rattle.arithmetic.specs.Semiring.{meanings};
 ghost use Rattle.sheet.specs.Packed.{Sound};
+ghost use Rattle.sheet.specs.Writing.{part};
 
 use arithmetic::Arithmetic;
+use std::iter::Zip;
+use std::slice::Iter;
 
 // A sheet of an order that keeps every rule, by its index words and its figures.
 #[derive(Drop)]
@@ -55,6 +60,16 @@ impl<F: Arithmetic> Sheet<'_, F> {
         ensures fits { result.1 < 2 ^ 32 }
     {
         (self.words[i] as usize, self.words[i + 1] as usize)
+    }
+
+    // The stored cells of row i off the diagonal: the columns, and beside each its figure.
+    pub fn cells(&self, i: usize) -> Zip<Iter<'_, u32>, Iter<'_, F>>
+        requires { i < self.now.order }
+        ensures columns { iter_rest (zip_first result) ≡ part self.now.words.now (slice_index self.now.words.now i) (slice_index self.now.words.now (i + 1)) }
+        ensures figures { iter_rest (zip_second result) ≡ part self.now.figures.now (slice_index self.now.words.now i) (slice_index self.now.words.now (i + 1)) }
+    {
+        let (from, to) = self.row(i);
+        self.words[from..to].iter().zip(&self.figures[from..to])
     }
 
     // One cell: the figure on the diagonal, or the one that stands beside the column in its row, or zero where the row

@@ -41,6 +41,7 @@ fn write_head<F: Arithmetic>(
     ensures starts { (c : ℕ) → c < sheet.now.order → slice_index next.new c ≡ row_start F.Arithmetic.figures.ring sheet.now.order (flipped (table_of sheet.now)) c }
 {
     let mut at = sheet.order + 1;
+    // Four arrays are read and written at one place: a zip of all would be longer.
     for row in 0..sheet.order {
         let size = next[row] as usize;
         index[row] = at as u32;
@@ -84,10 +85,8 @@ pub fn write_flipped<F: Arithmetic>(sheet: &Sheet<'_, F>, index: &mut [u32], fig
     let mut next = count_columns(sheet);
     write_head(sheet, index, figures, &mut next);
     for row in 0..sheet.order {
-        let (from, to) = sheet.row(row);
-        for q in from..to {
-            let column = sheet.words[q] as usize;
-            move_cell(index, figures, &mut next, column, row, sheet.figures[q]);
+        for (column, figure) in sheet.cells(row) {
+            move_cell(index, figures, &mut next, *column as usize, row, *figure);
         }
     }
 }

@@ -1,2 +1,1 @@
 pub mod Scatters
-pub mod Parts

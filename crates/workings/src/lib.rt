@@ -1,5 +1,4 @@
-// A sound sheet times a vector, and a vector times a sound sheet. Only stored cells are read: a row is walked by its
-// words and its figures together.
+// A sound sheet times a vector, and a vector times a sound sheet. Only stored cells are read.
 #![tactic(auto)]
 
 ghost use Rattle.std.specs.Prelude.{◌≡◌, ℕ, ◌<◌, map, length};
@@ -18,9 +17,8 @@ fn work_column<F: Arithmetic>(sheet: &Sheet<'_, F>, x: &[F], i: usize) -> F
     ensures { F.Arithmetic.figures.meaning result ≡ column_worked F.Arithmetic.figures.ring sheet.now.order (table_of sheet.now) (figure_at F.Arithmetic.figures.ring (meanings F.Arithmetic.figures x.now)) i }
 {
     let mut total = sheet.figures[i].multiply(x[i]);
-    let (from, to) = sheet.row(i);
-    for (word, figure) in sheet.words[from..to].iter().zip(&sheet.figures[from..to]) {
-        total = total.add(figure.multiply(x[*word as usize]));
+    for (column, figure) in sheet.cells(i) {
+        total = total.add(figure.multiply(x[*column as usize]));
     }
     total
 }
@@ -50,10 +48,9 @@ fn scatter_row<F: Arithmetic>(sheet: &Sheet<'_, F>, i: usize, factor: F, out: &m
     requires { (length out.old ≡ sheet.now.order) × (i < sheet.now.order) }
     ensures { Grew F.Arithmetic.figures.ring sheet.now.order (λ j. F.Arithmetic.figures.ring.mul (F.Arithmetic.figures.meaning factor) (off_cell F.Arithmetic.figures.ring sheet.now.words.now (meanings F.Arithmetic.figures sheet.now.figures.now) i j)) (meanings F.Arithmetic.figures out.old) (meanings F.Arithmetic.figures out.new) }
 {
-    let (from, to) = sheet.row(i);
-    for (word, figure) in sheet.words[from..to].iter().zip(&sheet.figures[from..to]) {
-        let j = *word as usize;
-        out[j] = out[j].add(factor.multiply(*figure));
+    for (column, figure) in sheet.cells(i) {
+        let grown = &mut out[*column as usize];
+        *grown = grown.add(factor.multiply(*figure));
     }
 }
 

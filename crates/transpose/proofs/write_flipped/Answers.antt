@@ -1,9 +1,10 @@
-use Rattle.std.proofs.Common.{◌≡◌, ◌+◌, get_or, refl, arith}
+use Rattle.std.proofs.Common.{◌≡◌, ◌+◌, ◌∷◌, [], ◌++◌, length, get_or, arith, rules}
+use Rattle.std.proofs.lemmas.List.{length_push}
 use Rattle.arithmetic.specs.Semiring.{meanings}
-use Rattle.matrix.proofs.Meant.{at_means}
 use Rattle.sheet.proofs.Known.{sheet_sound}
+use Rattle.sheet.proofs.Cells.{cells_turn, cells_end}
 use Rattle.transpose.proofs.Hits.{hits_all}
-use Rattle.transpose.proofs.Walks.{walking_none, walking_cell, walking_done, column_low, place_free}
+use Rattle.transpose.proofs.Walks.{walking_none, walking_cell, walking_done, place_free}
 use Rattle.transpose.proofs.write_flipped.Goals as goal
 
 pub write_head-requires-clause-counts : goal.write_head-requires-clause-counts
@@ -21,27 +22,34 @@ loop-row-init g c =
     let head = c.write_head.ensures in
     walking_none record { sound = sound; small = omega arith; room = omega arith; even = omega arith } c.write_head.new.index c.write_head.new.figures c.write_head.new.next head.head (omega arith) head.starts
 
+pub loop-column-init : goal.loop-column-init
+loop-column-init g c =
+    let words = c.args.sheet.now.words.now in
+    let start : get_or words c.loop-row.row 0 + 0 ≡ get_or words c.loop-row.row 0 = omega arith in
+    rw start c.loop-row.invariant
+
 pub move_cell-requires-clause-cell : goal.move_cell-requires-clause-cell
-move_cell-requires-clause-cell g c = let low = column_low c.loop-q.invariant c.loop-row.row (omega arith) (omega arith) (omega arith) _ refl in (omega arith, omega arith)
+move_cell-requires-clause-cell g c =
+    let turn = cells_turn c.args.sheet.now c.loop-row.row (omega arith) c.loop-column.yielded c.into_iter-column-iterator.result c.loop-column.column-iterator c.next.new.self c.next.result (search rules) (search rules) c.loop-column.yielded_by c.next.ensures.steps (c.in-Some.column, c.in-Some.figure) c.in-Some.is in
+    (omega (arith, turn.column, turn.below), omega arith)
 
 pub move_cell-requires-clause-free : goal.move_cell-requires-clause-free
-move_cell-requires-clause-free g c = place_free c.loop-q.invariant c.loop-row.row (omega arith) (omega arith) (omega arith) _ refl
+move_cell-requires-clause-free g c =
+    let turn = cells_turn c.args.sheet.now c.loop-row.row (omega arith) c.loop-column.yielded c.into_iter-column-iterator.result c.loop-column.column-iterator c.next.new.self c.next.result (search rules) (search rules) c.loop-column.yielded_by c.next.ensures.steps (c.in-Some.column, c.in-Some.figure) c.in-Some.is in
+    place_free c.loop-column.invariant c.loop-row.row (omega arith) (omega arith) (omega (arith, turn.within)) _ turn.column
 
-pub loop-q-preserved : goal.loop-q-preserved
-loop-q-preserved g c =
-    let a = g.F.Arithmetic.figures in
-    let w = c.loop-q.invariant in
-    let figure = at_means a c.args.sheet.now.figures.now c.loop-q.q c.index-sheet-q.result a.ring.zero (omega arith) in
+pub loop-column-preserved : goal.loop-column-preserved
+loop-column-preserved g c =
+    let words = c.args.sheet.now.words.now in
+    let turn = cells_turn c.args.sheet.now c.loop-row.row (omega arith) c.loop-column.yielded c.into_iter-column-iterator.result c.loop-column.column-iterator c.next.new.self c.next.result (search rules) (search rules) c.loop-column.yielded_by c.next.ensures.steps (c.in-Some.column, c.in-Some.figure) c.in-Some.is in
     let moved = c.move_cell.ensures in
-    walking_cell w c.loop-row.row (omega arith) (omega arith) (omega arith) _ refl _ figure _ _ _ moved.word moved.figure moved.next
+    let next : get_or words c.loop-row.row 0 + length (c.loop-column.yielded ++ (c.in-Some.column, c.in-Some.figure) ∷ []) ≡ get_or words c.loop-row.row 0 + length c.loop-column.yielded + 1 = omega (arith, length_push c.loop-column.yielded (c.in-Some.column, c.in-Some.figure)) in
+    rw next (walking_cell c.loop-column.invariant c.loop-row.row (omega arith) (omega arith) (omega (arith, turn.within)) _ turn.column _ turn.figure _ _ _ moved.word moved.figure moved.next)
 
 pub loop-row-preserved : goal.loop-row-preserved
 loop-row-preserved g c =
-    let w = c.loop-q.invariant in
-    let words = c.args.sheet.now.words.now in
-    let at_row = c.row-from.ensures in
-    let end : c.loop-q.q ≡ get_or words (c.loop-row.row + 1) 0 = omega (arith, c.loop-q.auto.q-end (omega arith)) in
-    rw end at w
+    let end = cells_end c.args.sheet.now c.loop-row.row (omega arith) c.loop-column.yielded c.into_iter-column-iterator.result c.loop-column.column-iterator c.next.new.self c.next.result (search rules) (search rules) c.loop-column.yielded_by c.next.ensures.steps c.in-None.is in
+    rw end at c.loop-column.invariant
 
 pub returns : goal.returns
 returns g c =
