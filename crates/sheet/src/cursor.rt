@@ -6,7 +6,8 @@ use crate::Sheet;
 use arithmetic::Arithmetic;
 
 // Where the cell of row i and column k stands, or the place `order`, whose figure is zero, if it is not stored, so that no
-// case is needed for it. This asks of the words alone, and serves words that are no sound sheet's too. The place p is the first of the row whose column is not below k.
+// case is needed for it. The place p is the first of the row whose column is not below k. This asks of the words alone,
+// and serves words that are no sound sheet's too.
 pub fn spot(order: usize, words: &[u32], i: usize, k: usize, p: usize) -> usize
     requires { (i < order) × ((order < length words.now) × (slice_index words.now (i + 1) ≤ length words.now)) }
     ensures { result ≡ spot_of words.now order i k p }

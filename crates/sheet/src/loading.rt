@@ -15,10 +15,7 @@ fn is_placed(order: usize, rows: &[u32], columns: &[u32], k: usize) -> bool
     if rows[k] as usize >= order || columns[k] as usize >= order {
         return false;
     }
-    if k == 0 {
-        return true;
-    }
-    rows[k - 1] < rows[k] || (rows[k - 1] == rows[k] && columns[k - 1] < columns[k])
+    k == 0 || (rows[k - 1], columns[k - 1]) < (rows[k], columns[k])
 }
 
 // Whether every entry is placed, or which is the first that is not. They are gone through by their places, since an
@@ -82,7 +79,8 @@ impl<F: Arithmetic> Entries<'_, F> {
     {
         let mut at = order + 1;
         start_row(index, figures, 0, at);
-        // The entries come row by row: k goes through them once, while the rows go by.
+        // The entries come row by row: k goes through them once, while the rows go by. An iterator would be over the three
+        // lists zipped, and have to look one entry ahead.
         let mut k = 0;
         for row in 0..order {
             while self.is_in_row(k, row) {

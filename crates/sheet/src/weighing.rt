@@ -4,7 +4,7 @@ use crate::Refusal;
 use arithmetic::Arithmetic;
 
 // The dot product: each figure of the first vector times its partner in the second, summed. Two empty
-// vectors give zero. The loop goes over the first vector with its index, as weighing is told.
+// vectors give zero.
 pub fn weigh<F: Arithmetic>(first: &[F], second: &[F]) -> Result<F, Refusal>
     ensures { Weighs F.Arithmetic.figures first.now second.now result }
 {
@@ -12,8 +12,8 @@ pub fn weigh<F: Arithmetic>(first: &[F], second: &[F]) -> Result<F, Refusal>
         return Err(Refusal::Lengths(1));
     }
     let mut total = F::zero();
-    for (i, figure) in first.iter().enumerate() {
-        total = total.add(figure.multiply(second[i]));
+    for (x, y) in first.iter().zip(second) {
+        total = total.add(x.multiply(*y));
     }
     Ok(total)
 }

@@ -19,11 +19,7 @@ pub fn places<F: Arithmetic>(row: usize, column: usize, figure: F) -> usize
     ensures count { result ≡ (if not (column == row) && not (F.Arithmetic.figures.ring.is_zero (F.Arithmetic.figures.meaning figure)) then 1 else 0) }
     ensures small { result ≤ 1 }
 {
-    if column != row && !figure.is_zero() {
-        1
-    } else {
-        0
-    }
+    usize::from(column != row && !figure.is_zero())
 }
 
 // Writes the figure of one cell; if it is stored off the diagonal, it goes to `at`. Answers where the next stored cell

@@ -1,10 +1,7 @@
 use Rattle.std.proofs.Common.{arith}
 use Rattle.std.proofs.lemmas.List.{get_or_default}
-use Rattle.sheet.proofs.Lists.{counted_none, counted_small, counted_next, counted_all}
+use Rattle.sheet.proofs.Lists.{counted_small, counted_next, counted_all}
 use Rattle.sheet.proofs.loading.Entries.packed_length.Goals as goal
-
-pub loop-k-init : goal.loop-k-init
-loop-k-init g c = counted_none g.F.Arithmetic.figures _ _ _ _ c.args.self.now.a_column_each c.args.self.now.a_figure_each c.requires.placed (omega arith)
 
 pub overflow_add-length-in-loop-k : goal.overflow_add-length-in-loop-k
 overflow_add-length-in-loop-k g c =
