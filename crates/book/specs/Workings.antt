@@ -3,10 +3,12 @@ use Rattle.std.specs.Prelude.{◌≡◌, ℕ, List, [], ◌∷◌, ◌++◌, map
 use Rattle.std.specs.List.{range_with_len}
 use Rattle.arithmetic.specs.Semiring.{Figures, meanings}
 use Rattle.matrix.specs.Vectors.{Vector, column_worked, row_worked, figure_at}
+use Rattle.arithmetic.specs.declared.Arithmetic.{Ghosts}
 use Rattle.sheet.specs.declared.refusal.Refusal.{Refusal}
+use Rattle.sheet.specs.declared.sound.Sheet.{Sheet}
+use Rattle.sheet.specs.Sheets.{table_of}
 use Rattle.book.specs.Book.{Arrays, order_of, sheet_table}
 use Rattle.book.specs.Lines.{Line, Granted, SentBack, guard, vector_lengths, missing}
-use Rattle.book.specs.Checked.{SheetLies}
 
 -- a list of stored values as a vector
 abbrev pub vector : {S : Type 0} (a : Figures S) → List S → Vector a.F
@@ -30,7 +32,9 @@ module _ {S : Type 0} (a : Figures S) (b : Arrays S) where
   abbrev pub RowWorked : ℕ → List S → List S → Result ℕ Refusal → List S → Type 0
   RowWorked k y = Worked (row_worked a.ring (order_of b) (vector a y) (sheet_table a b k)) k y
 
-  -- the place of sheet k, and the vectors are as long as the order; or the working is sent back
-  abbrev pub WorkingFound : ℕ → List S → List S → Result (ℕ × ℕ) Refusal → Type 0
-  WorkingFound k given out (Ok place) = SheetLies a b k place × (length given ≡ order_of b) × (length out ≡ order_of b)
-  WorkingFound k given out (Err why) = SentBack (working_lines k given out) why
+-- sheet k, with a vector in and a vector out for it, since none of the lines applies; or the working is sent back
+abbrev pub WorkingFound : {S : Type 0} {g : Ghosts S} → Arrays S → ℕ → List S → List S → Result (Sheet S g) Refusal → Type 0
+WorkingFound {g = g} b k given out (Ok sheet) =
+    Granted (working_lines g.figures b k given out) × (sheet.order ≡ order_of b) × (table_of sheet ≡ sheet_table g.figures b k)
+    × (length given ≡ order_of b) × (length out ≡ order_of b)
+WorkingFound {g = g} b k given out (Err why) = SentBack (working_lines g.figures b k given out) why

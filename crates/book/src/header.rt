@@ -8,20 +8,20 @@ use sheet::Refusal;
 
 // A header as long as it should be.
 #[derive(Drop)]
-pub(crate) struct Header<'a> {
-    pub(crate) words: &'a [u32],
-    pub(crate) ghost long: { length words.now ≡ 19 },
+pub struct Header<'a> {
+    pub words: &'a [u32],
+    pub ghost long: { length words.now ≡ 19 },
 }
 
 impl Header<'_> {
-    pub(crate) fn order(&self) -> usize
+    pub fn order(&self) -> usize
         ensures { result ≡ slice_index self.now.words.now 0 }
     {
         self.words[0] as usize
     }
 
     // How many sheets the book has.
-    pub(crate) fn sheets(&self) -> usize
+    pub fn sheets(&self) -> usize
         ensures { result ≡ slice_index self.now.words.now 1 }
     {
         self.words[1] as usize

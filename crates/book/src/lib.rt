@@ -21,6 +21,8 @@ mod working;
 pub use adding::add;
 pub use check::check_book;
 pub use flipping::flip;
+pub use header::Header;
+pub use limits::HEADER_WORDS;
 pub use loading::load;
 pub use lookup::{cell, columns, figures, row};
 pub use multiplying::multiply;

@@ -1,5 +1,6 @@
 // The numbers that bound a book.
-pub(crate) const HEADER_WORDS: usize = 19;
+// How many words a header has.
+pub const HEADER_WORDS: usize = 19;
 
 pub(crate) const MOST_SHEETS: usize = 16;
 

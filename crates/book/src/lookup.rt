@@ -56,13 +56,13 @@ pub fn row<F: Arithmetic>(
     ensures is { RowIs F.Arithmetic.figures (record { header = header.now; index = index.now; figures = figures.now }) sheet row result }
     ensures within { Between {S = F} (record { header = header.now; index = index.now; figures = figures.now }) result }
 {
-    let (from, to) = find_sheet(header, index, figures, sheet)?;
+    let place = find_sheet(header, index, figures, sheet)?;
     let order = Header { words: header }.order();
     if row >= order {
         return Err(Refusal::Misplaced(0));
     }
-    let words = &index[from..to];
-    Ok((from + words[row] as usize, from + words[row + 1] as usize))
+    let (from, to) = sheet_at(order, index, figures, place).row(row);
+    Ok((place.0 + from, place.0 + to))
 }
 
 // The columns of the off-diagonal cells of a row of a sheet.

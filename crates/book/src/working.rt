@@ -4,20 +4,20 @@ use crate::check::check_book;
 use crate::header::Header;
 use crate::places::sheet_at;
 use arithmetic::Arithmetic;
-use sheet::Refusal;
+use sheet::{Refusal, Sheet};
 use workings::{work_columns, work_rows};
 
 // The checks that both workings begin with: the book, the lengths of the vector in and the vector out, the
-// sheet. Answers where the sheet begins and ends in the index array and the figure array.
-fn find_working<F: Arithmetic>(
+// sheet. Answers the sheet.
+fn find_working<'a, F: Arithmetic>(
     header: &[u32],
-    index: &[u32],
-    figures: &[F],
+    index: &'a [u32],
+    figures: &'a [F],
     sheet: usize,
     given: &[F],
     out: &[F],
-) -> Result<(usize, usize), Refusal>
-    ensures { WorkingFound F.Arithmetic.figures (record { header = header.now; index = index.now; figures = figures.now }) sheet given.now out.now result }
+) -> Result<Sheet<'a, F>, Refusal>
+    ensures { WorkingFound (record { header = header.now; index = index.now; figures = figures.now }) sheet given.now out.now result }
 {
     check_book(header, index, figures)?;
     let header = Header { words: header };
@@ -29,7 +29,7 @@ fn find_working<F: Arithmetic>(
         return Err(Refusal::Lengths(1));
     }
     header.check_there(sheet)?;
-    Ok(header.place_of(sheet))
+    Ok(sheet_at(order, index, figures, header.place_of(sheet)))
 }
 
 // A sheet times the vector x: out(i) becomes the sum of cell(i, j) × x(j) over the columns j. Answers 0.
@@ -43,8 +43,7 @@ pub fn column_working<F: Arithmetic>(
 ) -> Result<usize, Refusal>
     ensures { ColumnWorked F.Arithmetic.figures (record { header = header.now; index = index.now; figures = figures.now }) sheet x.now out.old result out.new }
 {
-    let place = find_working(header, index, figures, sheet, x, out)?;
-    let sheet = sheet_at(Header { words: header }.order(), index, figures, place);
+    let sheet = find_working(header, index, figures, sheet, x, out)?;
     work_columns(&sheet, x, out);
     Ok(0)
 }
@@ -62,8 +61,7 @@ pub fn row_working<F: Arithmetic>(
 ) -> Result<usize, Refusal>
     ensures { RowWorked F.Arithmetic.figures (record { header = header.now; index = index.now; figures = figures.now }) sheet y.now out.old result out.new }
 {
-    let place = find_working(header, index, figures, sheet, y, out)?;
-    let sheet = sheet_at(Header { words: header }.order(), index, figures, place);
+    let sheet = find_working(header, index, figures, sheet, y, out)?;
     work_rows(&sheet, y, out);
     Ok(0)
 }

@@ -10,7 +10,6 @@ use Rattle.book.specs.Book.{Arrays, SoundBook, order_of, sheets_of}
 use Rattle.book.specs.Lines.{Granted, SentBack, FirstMissing, guard, missing}
 use Rattle.book.specs.Workings.{working_lines, ColumnWorked, RowWorked}
 use Rattle.book.proofs.Passing.{granted_both, guard_passes, sent_after}
-use Rattle.book.proofs.Sheets.{sheet_lies}
 use Rattle.book.proofs.Singles.{not_both}
 use Rattle.book.proofs.Worked.{working_granted}
 use Rattle.clerks.specs.Carrying.{CarriedBack, back_more, CarriedForward, forward_none, forward_more}
@@ -77,7 +76,7 @@ module _ {S : Type 0} (a : Figures S) (b : Arrays S) (line : List ℕ) where
       let low : length line - 1 - j < length line = omega (arith, met.0, length-reverse line) in
       let is : sheet ≡ get_or line (length line - 1 - j) 0 = met.1 ∙ (get_or-reverse line j sheet (omega (arith, met.0, length-reverse line)) ∙ get_or_default line _ sheet 0 low) in
       let there : sheet < sheets_of b = rw is (stands.there _ low) in
-      not_both (working_lines a b sheet given out) why (working_granted a b sheet given out _ _ (sheet_lies a b stands.sound sheet there, long, long')) sent
+      not_both (working_lines a b sheet given out) why (working_granted a b sheet given out stands.sound there long long') sent
 
 -- one sheet more at the front
 pub back_next : {S : Type 0} (a : Figures S) (b : Arrays S) (sheets : List ℕ) (sheet : ℕ) (x before out : List S) (answer : ℕ) → CarriedBack a b (reverse sheets) x before → ColumnWorked a b sheet before before (Ok answer) out → CarriedBack a b (reverse (sheets ++ sheet ∷ [])) x out

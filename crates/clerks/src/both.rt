@@ -30,9 +30,7 @@ fn check_desk<F: Arithmetic>(
     check_open(header, index, figures, order)
 }
 
-// Opens a book and carries out a list of calls on it, and writes down what each answered. The arrays are lent one by one,
-// as every call takes them: a struct of them, which was tried, needs a lifetime for each, and in each function a clause
-// for each that it is the same array still.
+// Opens a book and carries out a list of calls on it, and writes down what each answered.
 pub fn work_book<F: Arithmetic>(
     order: usize,
     header: &mut [u32],

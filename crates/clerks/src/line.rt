@@ -3,7 +3,7 @@ ghost use Rattle.book.specs.Book.{order_of};
 ghost use Rattle.clerks.specs.LineTotals.{LengthsChecked, SheetsChecked, LineStands, LineChecked, LineOutcome, BackDone, ForwardDone};
 
 use arithmetic::Arithmetic;
-use book::{Refusal, check_book, column_working, row_working};
+use book::{Header, Refusal, check_book, column_working, row_working};
 use sheet::weigh;
 
 // Whether each of the vectors is as long as the order.
@@ -37,8 +37,9 @@ fn check_line<F: Arithmetic>(
     ensures { LineChecked F.Arithmetic.figures (record { header = header.now; index = index.now; figures = figures.now }) line.now (map (λ v. v.now) vectors.now) result }
 {
     check_book(header, index, figures)?;
-    check_lengths(header[0] as usize, vectors)?;
-    check_sheets(line, header[1] as usize)
+    let header = Header { words: header };
+    check_lengths(header.order(), vectors)?;
+    check_sheets(line, header.sheets())
 }
 
 // Column working along the line, from its last sheet to its first: each takes what the one after it gave.

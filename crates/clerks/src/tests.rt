@@ -1,9 +1,9 @@
 use crate::line_totals;
 use arithmetic::Amount;
-use book::Refusal;
+use book::{HEADER_WORDS, Refusal};
 
 // A book of order 3: the unit sheet, and the sheet of (0, 0, 2) (0, 2, 5) (1, 0, 4) (2, 2, 1).
-const HEADER: [u32; 19] = [3, 2, 0, 4, 10, 0, 0, 0, 0, 0, 0, 0, 0, 0, 0, 0, 0, 0, 0];
+const HEADER: [u32; HEADER_WORDS] = [3, 2, 0, 4, 10, 0, 0, 0, 0, 0, 0, 0, 0, 0, 0, 0, 0, 0, 0];
 
 const INDEX: [u32; 10] = [4, 4, 4, 4, 4, 5, 6, 6, 2, 0];
 

@@ -1,9 +1,9 @@
 use arithmetic::Amount;
-use book::{Refusal, cell};
+use book::{HEADER_WORDS, Refusal, cell};
 
 // A sound book of order 3 and capacity 12: the unit sheet from 0 to 4, and from 4 to 10 the sheet of
 // (0, 0, 2) (0, 2, 5) (1, 0, 4) (2, 2, 1). What lies past 10 has no rule.
-const HEADER: [u32; 19] = [3, 2, 0, 4, 10, 0, 0, 0, 0, 0, 0, 0, 0, 0, 0, 0, 0, 0, 0];
+const HEADER: [u32; HEADER_WORDS] = [3, 2, 0, 4, 10, 0, 0, 0, 0, 0, 0, 0, 0, 0, 0, 0, 0, 0, 0];
 
 const INDEX: [u32; 12] = [4, 4, 4, 4, 4, 5, 6, 6, 2, 0, 77, 78];
 
@@ -47,7 +47,10 @@ fn headers(rt: HostRuntime) {
         let header = changed(HEADER, word, value);
         assert_eq!(rt; judged(&header, &INDEX, &sound), expected);
     }
-    assert_eq!(rt; judged(&[4_294_967_295; 19], &INDEX, &sound), Some((3, 0)));
+    assert_eq!(rt;
+        judged(&[4_294_967_295; HEADER_WORDS], &INDEX, &sound),
+        Some((3, 0))
+    );
 }
 
 #[test]

@@ -1,5 +1,5 @@
 // A book in three arrays of its own, and the calls on it.
-ghost use Rattle.std.specs.Prelude.{◌≡◌};
+ghost use Rattle.std.specs.Prelude.{◌≡◌, ◌≤◌};
 ghost use Rattle.sheet.specs.Weighing.{Weighs};
 ghost use Rattle.book.specs.Calls.{Outcome, Open, Unit', Load, Add, Multiply, Flip, Strike};
 ghost use Rattle.book.specs.Lookups.{CellIs, RowIs, RowPartIs};
@@ -8,12 +8,11 @@ ghost use Rattle.talgwefri.specs.Held.{held};
 ghost use Rattle.talgwefri.specs.Lent.{Lent};
 
 use arithmetic::Arithmetic;
+use book::HEADER_WORDS;
 use script::{Counted, Entries, Listed, Lists, Working};
 use sheet::{Refusal, weigh};
 use std::alloc::{AllocError, Global};
 use std::fmt;
-
-const HEADER_WORDS: usize = 19;
 
 #[derive(Drop)]
 pub(crate) struct Book<F> {
@@ -192,13 +191,26 @@ impl<F> Book<F> {
         *self.header.allocator()
     }
 
-    // A word of the header, or 0 where there is none.
+    // A word of the header, or 0 where there is none: a book without arrays has no `Header`.
     fn word(&self, place: usize) -> u32 {
         self.header.get(place).copied().unwrap_or(0)
     }
 
     pub(crate) fn order(&self) -> usize {
         self.word(0) as usize
+    }
+
+    fn sheets(&self) -> usize
+        ensures { result ≤ 4294967295 }
+    {
+        self.word(1) as usize
+    }
+
+    // The start of a sheet, which is the end of the sheet before it.
+    fn start(&self, sheet: usize) -> usize
+        requires { sheet ≤ 4294967295 }
+    {
+        self.word(2 + sheet) as usize
     }
 }
 
@@ -221,13 +233,12 @@ fn write_part<T: fmt::Display, W: fmt::Write>(
 // The header, and the two packed arrays up to the last end, sheet by sheet.
 impl<F: fmt::Display> fmt::Display for Book<F> {
     fn fmt<W: fmt::Write>(&self, f: &mut fmt::Formatter<W>) -> fmt::Result {
-        let sheets = self.word(1) as usize;
+        let sheets = self.sheets();
         let count = Counted(sheets, "sheet", "sheets");
         let header = Listed(self.header.as_slice());
         write!(f, "{count}.\n   header: {header}")?;
         for sheet in 0..sheets {
-            let from = self.word(2 + sheet) as usize;
-            let to = self.word(3 + sheet) as usize;
+            let (from, to) = (self.start(sheet), self.start(sheet + 1));
             write_part(f, sheet, "index", self.index.get(from..to))?;
             write_part(f, sheet, "figures", self.figures.get(from..to))?;
         }

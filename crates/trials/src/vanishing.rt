@@ -1,7 +1,7 @@
 // Products that vanish from the packed form, sheets of blocks, and the smallest books. Each case compares all that the
 // three arrays hold.
 use arithmetic::{Amount, Arithmetic, Block, Wait};
-use book::Refusal;
+use book::{HEADER_WORDS, Refusal};
 
 const ROWS: [u32; 9] = [0, 0, 0, 1, 1, 1, 2, 2, 2];
 
@@ -13,10 +13,10 @@ fn after<F: Arithmetic, C: FnOnce(&mut [u32], &mut [u32], &mut [F]) -> Result<us
     first: [F; 9],
     second: [F; 9],
     call: C,
-) -> Result<([u32; 19], [u32; 18], [F; 18]), Refusal>
+) -> Result<([u32; HEADER_WORDS], [u32; 18], [F; 18]), Refusal>
     requires { C.IsAlwaysCallable call }
 {
-    let mut header = [0; 19];
+    let mut header = [0; HEADER_WORDS];
     let mut index = [7; 18];
     let mut figures = [F::unit(); 18];
     book::open(&mut header, &mut index, &mut figures, 3)?;
@@ -35,7 +35,7 @@ fn after<F: Arithmetic, C: FnOnce(&mut [u32], &mut [u32], &mut [F]) -> Result<us
 }
 
 // The header of three sheets that end there.
-fn header(ends: [u32; 3]) -> [u32; 19] {
+fn header(ends: [u32; 3]) -> [u32; HEADER_WORDS] {
     let [a, b, c] = ends;
     [3, 3, 0, a, b, c, 0, 0, 0, 0, 0, 0, 0, 0, 0, 0, 0, 0, 0]
 }
@@ -45,7 +45,7 @@ fn after_blocks<C: FnOnce(&mut [u32], &mut [u32], &mut [Block<Amount>]) -> Resul
     first: [[u32; 4]; 9],
     second: [[u32; 4]; 9],
     call: C,
-) -> Option<([u32; 19], [u32; 18], [[u32; 4]; 18])>
+) -> Option<([u32; HEADER_WORDS], [u32; 18], [[u32; 4]; 18])>
     requires { C.IsAlwaysCallable call }
 {
     let (header, index, figures) = after(blocks(first), blocks(second), call).ok()?;
@@ -139,10 +139,18 @@ fn waits_vanish(rt: HostRuntime) {
 fn first_call<
     const N: usize,
     C: FnOnce(&mut [u32], &mut [u32], &mut [Amount]) -> Result<usize, Refusal>,
->(order: usize, call: C) -> (Result<usize, (u8, usize)>, [u32; 19], [u32; N], [u32; N])
+>(
+    order: usize,
+    call: C,
+) -> (
+    Result<usize, (u8, usize)>,
+    [u32; HEADER_WORDS],
+    [u32; N],
+    [u32; N],
+)
     requires { C.IsAlwaysCallable call }
 {
-    let mut header = [0; 19];
+    let mut header = [0; HEADER_WORDS];
     let mut index = [7; N];
     let mut figures = [Amount::new(9); N];
     let _ = book::open(&mut header, &mut index, &mut figures, order);
@@ -166,7 +174,7 @@ fn load_twice(
 }
 
 // The header of one sheet, or of none.
-fn short_header(order: u32, sheets: u32, end: u32) -> [u32; 19] {
+fn short_header(order: u32, sheets: u32, end: u32) -> [u32; HEADER_WORDS] {
     [
         order, sheets, 0, end, 0, 0, 0, 0, 0, 0, 0, 0, 0, 0, 0, 0, 0, 0, 0,
     ]

@@ -16,4 +16,4 @@ returns-in_err-check_book g c =
 pub returns : goal.returns
 returns g c =
     let b : Arrays g.row.F.Denot = record { header = c.args.header.now; index = c.args.index.now; figures = c.args.figures.now } in
-    line_checked g.F.Arithmetic.figures b c.args.line.now c.in_ok-check_book.ensures _ c.in_ok-check_lengths.ensures _ c.check_sheets.ensures
+    line_checked g.F.Arithmetic.figures b c.args.line.now c.in_ok-check_book.ensures _ (rw c.order.ensures at c.in_ok-check_lengths.ensures) _ (rw c.sheets.ensures at c.check_sheets.ensures)
