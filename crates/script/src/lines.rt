@@ -26,13 +26,11 @@ impl<'a> Line<'a> {
     // The words of a line; none where it does not count.
     fn cut(heap: Global, number: usize, text: &'a str) -> Result<Option<Line<'a>>, AllocError> {
         let mut words = text.split_whitespace();
-        match words.next() {
-            Some(head) if !head.starts_with('#') => {
-                let rest = words.collect(heap)?;
-                Ok(Some(Line { number, head, rest }))
-            }
-            _ => Ok(None),
-        }
+        let Some(head) = words.next().filter(|head| !head.starts_with('#')) else {
+            return Ok(None);
+        };
+        let rest = words.collect(heap)?;
+        Ok(Some(Line { number, head, rest }))
     }
 }
 
