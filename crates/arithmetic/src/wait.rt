@@ -16,8 +16,8 @@ pub struct Wait {
 }
 
 impl Wait {
-    // The wait of so many days; none where that is above the longest wait. No `TryFrom`: it wants an error, and there is
-    // nothing more to tell.
+    // The wait of so many days; none where that is above the longest wait. No `TryFrom`: it wants an error, and there
+    // is nothing more to tell.
     pub fn days(n: u32) -> Option<Wait>
         ensures { MatchOption result (longest < n) (λ w. (n ≤ longest) × (wait_figures.meaning w ≡ delay n)) }
     {

@@ -50,6 +50,7 @@ fn word_keeps(header: &Header, capacity: usize, w: usize) -> bool
 fn check_header<F: Arithmetic>(header: &Header, index: &[u32], figures: &[F]) -> Result<(), Refusal>
     ensures { HeaderChecked (record { header = header.now.words.now; index = index.now; figures = figures.now }) result }
 {
+    // By number, which is told.
     for w in 0..HEADER_WORDS {
         if !word_keeps(header, index.len(), w) {
             return Err(Refusal::Header(w));

@@ -1,5 +1,6 @@
-// The calls on a book that lies in three given arrays. A call is lent the arrays one by one: a struct of them would hold
-// three `&mut`, and each contract would have to say of each that it is the same array still.
+// The calls on a book that lies in three given arrays. A call is lent the arrays one by one: a struct of them would
+// hold three `&mut`, and each contract would have to say of each that it is the same array still. Those that only read
+// take them alike, so that a caller lends a book alike to every call.
 #![tactic(auto)]
 
 mod adding;

@@ -8,7 +8,8 @@ use crate::making::{check_full, check_room, enter_sheet};
 use arithmetic::Arithmetic;
 use sheet::{Entries, Refusal, check_entries};
 
-// Whether the three lists of entries are equally long. They come one by one: only `Entries` are known to be of one length.
+// Whether the three lists of entries are equally long. They come one by one: only `Entries` are known to be of one
+// length.
 fn check_lists<F: Arithmetic>(rows: &[u32], columns: &[u32], values: &[F]) -> Result<(), Refusal>
     ensures { LineChecked (list_lengths rows.now columns.now values.now) result }
 {

@@ -1,5 +1,5 @@
-// What the calls that add a sheet have in common. Each of them splits the arrays itself: a function that lent it the free
-// parts, with the writing as a closure, would have to say by the closure what the new sheet is.
+// What the calls that add a sheet have in common. Each of them splits the arrays itself: a function that lent it the
+// free parts, with the writing as a closure, would have to say by the closure what the new sheet is.
 ghost use Rattle.std.specs.Prelude.{◌≡◌, ◌+◌, ◌<◌, ◌≤◌, length, slice_index, slice_set};
 ghost use Rattle.book.specs.Lines.{full, room};
 ghost use Rattle.book.specs.Checked.{LineChecked};
@@ -28,8 +28,8 @@ pub(crate) fn check_room(size: usize, left: usize) -> Result<(), Refusal>
     Ok(())
 }
 
-// Enters one more sheet, which ends at `end`, into the header, and answers its number. The words are written by place, as
-// in `open` and `strike`: a `Header` is lent the words to be read.
+// Enters one more sheet, which ends at `end`, into the header, and answers its number. The words are written by place,
+// as in `open` and `strike`: a `Header` is lent the words to be read.
 pub(crate) fn enter_sheet(header: &mut [u32], end: usize) -> usize
     requires { (length header.old ≡ 19) × ((slice_index header.old 1 < 16) × (end ≤ 65536)) }
     ensures number { result ≡ slice_index header.old 1 }

@@ -8,8 +8,8 @@ use arithmetic::Arithmetic;
 use product::{Meetings, product_length, write_product};
 use sheet::Refusal;
 
-// Adds the sheet of the product of two sheets, the first on the left. Answers its number. It is `add` with a scratch: one
-// function for both would take the length and the writing as closures, and both of these borrow the scratch.
+// Adds the sheet of the product of two sheets, the first on the left. Answers its number. It is `add` with a scratch:
+// one function for both would take the length and the writing as closures, and both of these borrow the scratch.
 pub fn multiply<F: Arithmetic>(
     header: &mut [u32],
     index: &mut [u32],

@@ -33,6 +33,7 @@ pub fn open<F: Arithmetic>(
 {
     check_open(header, index, figures, order)?;
     header.fill(0);
+    // By place, as in `enter_sheet`: a `Header` is lent the words to be read.
     header[0] = order as u32;
     Ok(0)
 }

@@ -18,6 +18,7 @@ pub fn strike<F: Arithmetic>(
     if sheets == 0 {
         return Err(Refusal::Sheet(0));
     }
+    // By place, as in `enter_sheet`: a `Header` is lent the words to be read.
     header[2 + sheets] = 0;
     header[1] = (sheets - 1) as u32;
     Ok(sheets - 1)

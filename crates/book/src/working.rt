@@ -48,9 +48,9 @@ pub fn column_working<F: Arithmetic>(
     Ok(0)
 }
 
-// The vector y times a sheet: out(j) becomes the sum of y(i) × cell(i, j) over the rows i. Answers 0.
-// The two workings stay apart: one function for both would take the working as a closure, and its contract would name what
-// the closure ensures in place of the vector times the sheet.
+// The vector y times a sheet: out(j) becomes the sum of y(i) × cell(i, j) over the rows i. Answers 0. The two workings
+// stay apart: one function for both would take the working as a closure, and its contract would name what the closure
+// ensures in place of the vector times the sheet.
 pub fn row_working<F: Arithmetic>(
     header: &[u32],
     index: &[u32],

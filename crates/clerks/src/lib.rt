@@ -1,6 +1,6 @@
-// Two clerks with a book each: what their sheets can never be brought away from, whatever calls they make. The arrays of a
-// book are lent one by one, as every call takes them: a struct of them, which was tried, needs a lifetime for each, and in
-// each function a clause for each that it is the same array still.
+// Two clerks with a book each: what their sheets can never be brought away from, whatever calls they make. The arrays
+// of a book are lent one by one, as every call takes them: a struct of them, which was tried, needs a lifetime for
+// each, and in each function a clause for each that it is the same array still.
 #![tactic(auto)]
 
 ghost use Rattle.clerks.specs.Pedigree.{TurnsBack};

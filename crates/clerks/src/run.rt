@@ -28,7 +28,8 @@ pub fn carry_out<F: Arithmetic>(
     }
 }
 
-// Whether there is one place for an answer for each call.
+// Whether there is one place for an answer for each call. Calls and answers are lent one by one, here and in `both`:
+// that they are equally many is answered, and not asked for.
 pub(crate) fn check_places<F: Arithmetic>(
     calls: &[Call<'_, F>],
     answers: &[Result<usize, Refusal>],

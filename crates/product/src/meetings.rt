@@ -6,7 +6,8 @@ use arithmetic::Arithmetic;
 use sheet::{Pair, RowCell};
 
 // Two stored cells that meet: where they stand in their sheets, and the meeting before theirs in the list of its
-// column. No meeting is 0, so `before` is 0 at a list's end: an option of it would take four bytes in place of two.
+// column. No meeting is 0, so `before` is 0 at a list's end: an option of it would take four bytes in place of two,
+// here and in `head`.
 #[derive(Clone, Copy)]
 struct Meeting {
     before: u16,
@@ -15,9 +16,10 @@ struct Meeting {
 }
 
 // The pairs of stored cells that meet in one row of a product, a list for each column. Meetings are counted from 1, and
-// 0 stands for none: head[c] is the last meeting of column c. A bit of `touched` is set for each column that has a list.
-// The lists are taken away one by one, by their columns: those before `from` are gone. They lie in arrays, since the
-// library takes no heap.
+// 0 stands for none: head[c] is the last meeting of column c. A bit of `touched` is set for each column that has a
+// list. The lists are taken away one by one, by their columns: those before `from` are gone. They lie in arrays of
+// fixed length, since no call allocates. That no list is left (`Idle`) is a clause of the functions that work a row,
+// and no invariant of the type: within a row there are lists.
 #[derive(Drop)]
 pub struct Meetings {
     head: [u16; 1024],

@@ -23,7 +23,7 @@ fn row_size<F: Arithmetic>(pair: &Pair<'_, F>, i: usize, meetings: &mut Meetings
     size
 }
 
-// How long the packed form of the product of two sheets is.
+// How long the packed form of the product of two sheets is. `sum` says why it and the sum do not go by one trait.
 pub fn product_length<F: Arithmetic>(pair: &Pair<'_, F>, meetings: &mut Meetings) -> usize
     requires { Idle pair.now.first.order meetings.old }
     ensures size { result ≡ packed_length F.Arithmetic.figures.ring pair.now.first.order (pair_product pair.now) }
@@ -36,7 +36,8 @@ pub fn product_length<F: Arithmetic>(pair: &Pair<'_, F>, meetings: &mut Meetings
     length
 }
 
-// Writes the packed form of the product of two sheets. `sum` says why it and the sum do not go by one trait.
+// Writes the packed form of the product of two sheets. Index and figures are lent side by side, as `writing` of `sheet`
+// says.
 pub fn write_product<F: Arithmetic>(
     pair: &Pair<'_, F>,
     index: &mut [u32],

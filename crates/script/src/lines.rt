@@ -73,7 +73,8 @@ impl Line<'_> {
         self.number_up_to(LARGEST_CAPACITY, place, CAPACITY)
     }
 
-    // As `number_up_to`: one function with the reader as a parameter is not proved where what is read is a type parameter.
+    // As `number_up_to`: one function with the reader as a parameter is not proved where what is read is a type
+    // parameter.
     pub(crate) fn figure_at<F: Figure>(&self, place: usize) -> Result<F, Fault> {
         let word = self.word_at(place, F::EXPECTED)?;
         F::read(word).ok_or_else(|| self.fault(F::EXPECTED, word))

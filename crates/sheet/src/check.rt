@@ -45,8 +45,9 @@ fn cell_keeps<F: Arithmetic>(
     !figures[p].is_zero()
 }
 
-// One pass over a sheet: either it is sound, or the first position that breaks its rule is named, counted from the start
-// of the arrays that the sheet stands in. It goes by positions, since one is told, and a rule reads the words before it.
+// One pass over a sheet: either it is sound, or the first position that breaks its rule is named, counted from the
+// start of the arrays that the sheet stands in. It goes by positions, since one is told, and a rule reads the words
+// before it.
 pub fn check_sheet<F: Arithmetic>(
     order: usize,
     start: usize,

@@ -5,9 +5,9 @@ ghost use Rattle.sheet.specs.Cursors.{spot_of, column_of};
 use crate::Sheet;
 use arithmetic::Arithmetic;
 
-// Where the cell of row i and column k stands, or the place `order`, whose figure is zero, if it is not stored, so that no
-// case is needed for it. The place p is the first of the row whose column is not below k. This asks of the words alone,
-// and serves words that are no sound sheet's too.
+// Where the cell of row i and column k stands, or the place `order`, whose figure is zero, if it is not stored, so that
+// no case is needed for it. The place p is the first of the row whose column is not below k. This asks of the words
+// alone, and serves the words of a sheet that is not sound too.
 pub fn spot(order: usize, words: &[u32], i: usize, k: usize, p: usize) -> usize
     requires { (i < order) × ((order < length words.now) × (slice_index words.now (i + 1) ≤ length words.now)) }
     ensures { result ≡ spot_of words.now order i k p }
@@ -29,8 +29,8 @@ pub fn advanced(p: usize, spot: usize) -> usize
     if spot == p { p + 1 } else { p }
 }
 
-// The column at place p of row i. Past the row's end it is `order`, which is above every column: the least of several is
-// then their `min`, which it would not be of options.
+// The column at place p of row i. Past the row's end it is `order`, which is above every column: the least of several
+// is then their `min`, which it would not be of options.
 pub fn column_at(order: usize, words: &[u32], i: usize, p: usize) -> usize
     requires { (i < order) × ((order < length words.now) × (slice_index words.now (i + 1) ≤ length words.now)) }
     ensures { result ≡ column_of words.now order i p }

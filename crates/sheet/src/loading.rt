@@ -19,7 +19,7 @@ fn is_placed(order: usize, rows: &[u32], columns: &[u32], k: usize) -> bool
 }
 
 // Whether every entry is placed, or which is the first that is not. They are gone through by their places, since an
-// entry is held against the one before it.
+// entry is held against the one before it. It asks nothing of the figures, so it takes two lists and no `Entries`.
 pub fn check_entries(order: usize, rows: &[u32], columns: &[u32]) -> Result<(), Refusal>
     requires { length columns.now ≡ length rows.now }
     ensures { EntriesChecked order rows.now columns.now result }
@@ -32,8 +32,8 @@ pub fn check_entries(order: usize, rows: &[u32], columns: &[u32]) -> Result<(), 
     Ok(())
 }
 
-// The entries of a table, as three lists of one length: their rows, their columns and their figures. Whether they are
-// placed depends on an order, which a list has not, so it is asked where it is needed.
+// The entries of a table, as three lists of one length, as `load` is lent them: their rows, their columns and their
+// figures. Whether they are placed depends on an order, which a list has not, so it is asked where it is needed.
 #[derive(Drop)]
 pub struct Entries<'a, F> {
     pub rows: &'a [u32],
@@ -79,8 +79,8 @@ impl<F: Arithmetic> Entries<'_, F> {
     {
         let mut at = order + 1;
         start_row(index, figures, 0, at);
-        // The entries come row by row: k goes through them once, while the rows go by. An iterator would be over the three
-        // lists zipped, and have to look one entry ahead.
+        // The entries come row by row: k goes through them once, while the rows go by. An iterator would be over the
+        // three lists zipped, and have to look one entry ahead.
         let mut k = 0;
         for row in 0..order {
             while self.is_in_row(k, row) {

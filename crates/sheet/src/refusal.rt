@@ -1,8 +1,8 @@
 ghost use Rattle.std.specs.Prelude.{◌≡◌};
 ghost use Rattle.sheet.specs.Refusals.{refusal_number, refusal_place};
 
-// Why a call was sent back: one case for each number, with the place. The place is a number in every case, also where it
-// tells one of a few kinds, since a number and a place are what every caller is told.
+// Why a call was sent back: one case for each number, with the place. The place is a number in every case, also where
+// it tells one of a few kinds, since a number and a place are what every caller is told.
 #[derive(Clone, Copy, Debug, PartialEq, Eq)]
 pub enum Refusal {
     // 1: 0, the header has not the right number of words; 1, index and figures differ in length; 2, the
@@ -26,6 +26,7 @@ pub enum Refusal {
     Room(usize),
 }
 
+// No `From`: `u8::from` and `usize::from` would not say which is the number and which the place.
 impl Refusal {
     pub fn number(self) -> u8
         ensures { result ≡ refusal_number self }

@@ -10,7 +10,7 @@ use arithmetic::Arithmetic;
 use std::iter::Zip;
 use std::slice::Iter;
 
-// A sheet of an order that keeps every rule, by its index words and its figures.
+// A sheet of an order that keeps every rule, by its index words and its figures, the two arrays of the packed form.
 #[derive(Drop)]
 pub struct Sheet<'a, F: Arithmetic> {
     pub order: usize,

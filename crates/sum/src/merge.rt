@@ -35,7 +35,7 @@ impl<'s, 'a, F: Arithmetic> Merge<'s, 'a, F> {
     }
 
     // The next column of the row that the first sheet, the second or the diagonal has; none at the row's end. It is the
-    // least of three numbers, of which `order` stands for none: of options the least would be a match.
+    // least of three numbers, of which `order` stands for none: the least of options would take a match.
     fn next_column(&self) -> Option<usize>
         requires { self.now.row < self.now.pair.now.first.order }
         ensures { let column = next_column_of self.now.pair.now.first.words.now self.now.pair.now.second.words.now self.now.pair.now.first.order self.now.row self.now.from self.now.p self.now.q in result ≡ (if nat_lt column self.now.pair.now.first.order then Some column else None) }

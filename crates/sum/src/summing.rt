@@ -21,9 +21,9 @@ pub fn added_length<F: Arithmetic>(pair: &Pair<'_, F>) -> usize
     length
 }
 
-// Writes the packed form of the sum of two sheets. `product` goes through its cells in the same two ways, for the length
-// and to write them. One trait for both was tried: its ghost member would have to name the figures of `F`, and the type of
-// a ghost member cannot.
+// Writes the packed form of the sum of two sheets. Index and figures are lent side by side, as `writing` of `sheet`
+// says. `product` goes through its cells in the same two ways, for the length and to write them. One trait for both was
+// tried: its ghost member would have to name the figures of `F`, and the type of a ghost member cannot.
 pub fn write_added<F: Arithmetic>(pair: &Pair<'_, F>, index: &mut [u32], figures: &mut [F])
     requires arrays { SideBySide index.old figures.old }
     requires room { packed_length F.Arithmetic.figures.ring pair.now.first.order (pair_sum pair.now) ≤ length index.old }

@@ -14,6 +14,7 @@ use sheet::{Refusal, weigh};
 use std::alloc::{AllocError, Global};
 use std::fmt;
 
+// The three arrays of a book, as every call is lent them.
 #[derive(Drop)]
 pub(crate) struct Book<F> {
     header: Vec<u32>,

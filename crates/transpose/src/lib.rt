@@ -1,5 +1,6 @@
 // The transpose of a sheet: columns are counted, counts become the starts of the new rows, and each cell goes to the
-// next free place of its new row.
+// next free place of its new row. Sizes are asked by clauses, since a `Sheet` may be larger than a book's; index and
+// figures are lent side by side, as `writing` of `sheet` says.
 #![tactic(auto)]
 
 ghost use Rattle.std.specs.Prelude.{◌≡◌, ℕ, ◌+◌, ◌-◌, ◌<◌, ◌≤◌, length, slice_index, slice_set};
@@ -13,7 +14,7 @@ ghost use Rattle.transpose.specs.Flipping.{hits, HeadLaid};
 use arithmetic::Arithmetic;
 use sheet::{Sheet, start_row};
 
-// How often each column stands in a sheet off the diagonal: in an array of fixed length, since the library takes no heap.
+// How often each column stands in a sheet off the diagonal: in an array of fixed length, since no call allocates.
 fn count_columns<F: Arithmetic>(sheet: &Sheet<'_, F>) -> [u32; 1024]
     requires small { (sheet.now.order ≤ 1024) × (length sheet.now.words.now ≤ 65536) }
     ensures { (c : ℕ) → c < 1024 → slice_index result c ≡ hits sheet.now.words.now c (sheet.now.order + 1) (length sheet.now.words.now - (sheet.now.order + 1)) }

@@ -1,4 +1,5 @@
-// A sound sheet times a vector, and a vector times a sound sheet. Only stored cells are read.
+// A sound sheet times a vector, and a vector times a sound sheet. Only stored cells are read. That a vector is as long
+// as the order is said of two values, so it is a clause, and no type of one of them holds it.
 #![tactic(auto)]
 
 ghost use Rattle.std.specs.Prelude.{◌≡◌, ℕ, ◌<◌, map, length};
@@ -38,6 +39,7 @@ fn work_diagonal<F: Arithmetic>(sheet: &Sheet<'_, F>, y: &[F], out: &mut [F])
     requires { (length y.now ≡ sheet.now.order) × (length out.old ≡ sheet.now.order) }
     ensures { (j : ℕ) → j < sheet.now.order → figure_at F.Arithmetic.figures.ring (meanings F.Arithmetic.figures out.new) j ≡ F.Arithmetic.figures.ring.mul (figure_at F.Arithmetic.figures.ring (meanings F.Arithmetic.figures y.now) j) (figure_at F.Arithmetic.figures.ring (meanings F.Arithmetic.figures sheet.now.figures.now) j) }
 {
+    // By place: in a loop over a zip with `iter_mut`, which was tried, a proof has no name for what was written.
     for (j, figure) in out.iter_mut().enumerate() {
         *figure = y[j].multiply(sheet.figures[j]);
     }
