@@ -1,18 +1,15 @@
 -- The columns that a row stores.
-use Rattle.std.proofs.Common.{◌≡◌, ℕ, zero, suc, ◌+◌, ◌<◌, ◌≤◌, Bool, true, false, cond, not, ◌&&◌, eqb, [], ◌∷◌, ◌++◌, length, get_or, refl, ap, ◌∙◌, ⊎_elim, add-one, arith}
+use Rattle.std.proofs.Common.{◌≡◌, ℕ, zero, suc, ◌+◌, ◌<◌, ◌≤◌, true, false, cond, not, eqb, [], ◌∷◌, ◌++◌, length, get_or, refl, ap, ◌∙◌, ⊎_elim, add-one, arith}
 use Rattle.std.proofs.lemmas.List.{append-nil, length-append, length_push, get_or_append_left, get_or_push}
+use Rattle.std.proofs.Math.Bool.{and-false}
 use Rattle.std.proofs.lemmas.Bool.{cases_lt, cases_Bool}
 use Rattle.arithmetic.specs.Semiring.{Semiring}
 use Rattle.sheet.specs.Packed.{stored, columns_below}
 
-and_no : (b : Bool) → (b && false) ≡ false
-and_no true = refl
-and_no false = refl
-
 module _ {F : Type 0} (s : Semiring F) (r : ℕ) (v : ℕ → F) where
   -- a cell that is zero is not stored
   pub zero_not_stored : (c : ℕ) → v c ≡ s.zero → stored s r v c ≡ false
-  zero_not_stored c e = rw ((s.tests_zero (v c)).1 e) (and_no (not (eqb c r)))
+  zero_not_stored c e = rw ((s.tests_zero (v c)).1 e) (and-false (not (eqb c r)))
 
   columns_more : (c : ℕ) → columns_below s r v (c + 1) ≡ columns_below s r v c ++ cond (stored s r v c) (c ∷ []) []
   columns_more c = rw add-one refl

@@ -1,30 +1,15 @@
 -- The packed form of a table is a sound sheet.
-use Rattle.std.proofs.Common.{◌≡◌, ℕ, zero, suc, ◌+◌, ◌-◌, ◌<◌, ◌≤◌, Bool, true, false, cond, not, ◌&&◌, [], ◌∷◌, ◌++◌, map, length, get_or, sym, refl, ap, ◌∙◌, subst, ⊎_elim, add-one, arith}
+use Rattle.std.proofs.Common.{◌≡◌, ℕ, zero, suc, ◌+◌, ◌-◌, ◌<◌, ◌≤◌, true, false, cond, [], ◌∷◌, ◌++◌, map, length, get_or, sym, refl, ap, ◌∙◌, subst, ⊎_elim, add-one, arith}
 use Rattle.std.specs.List.{range_with_len}
 use Rattle.std.proofs.lemmas.List.{append-nil, length_push, get_or_append_left, get_or-append_right, get_or_push}
 use Rattle.std.proofs.lemmas.List.FromFn.{length-map-range_with_len}
-use Rattle.std.proofs.lemmas.Bool.{cases_lt, cases_Bool, eq-eqb}
+use Rattle.std.proofs.lemmas.Bool.{and_parts, not-true, iff_false, false≢true, cases_lt, cases_Bool, eq-eqb}
 use Rattle.arithmetic.specs.Semiring.{Semiring}
 use Rattle.matrix.specs.Tables.{Table}
 use Rattle.sheet.specs.Packed.{joined_over, stored, columns_below, row_columns, row_start, packed_index, packed_figures, Head, Cell, Sound}
 use Rattle.sheet.proofs.Columns.{columns_below_n}
 use Rattle.sheet.proofs.Packs.{start_at, column_of, figure_of}
 use Rattle.sheet.proofs.Same.{index_long}
-
-abbrev IsTrue : Bool → Type 0
-IsTrue true = Unit {0}
-IsTrue false = ⊥
-
-true_not_false : true ≡ false → ⊥
-true_not_false z = subst IsTrue z tt
-
-both_true : (b c : Bool) → b && c ≡ true → (b ≡ true) × (c ≡ true)
-both_true true c e = (refl, e)
-both_true false c e = absurd (true_not_false (sym e))
-
-not_true : (b : Bool) → not b ≡ true → b ≡ true → ⊥
-not_true true e f = true_not_false (sym e)
-not_true false e f = true_not_false (sym f)
 
 module _ {F : Type 0} (s : Semiring F) (r : ℕ) (v : ℕ → F) where
   -- each column of the list is one that is stored
@@ -105,7 +90,7 @@ module _ {F : Type 0} (s : Semiring F) (n : ℕ) (t : Table F) where
       let short : p - row_start s n t r < length (row_columns s n t r) = omega arith in
       let column : get_or (packed_index s n t) p 0 ≡ get_or (row_columns s n t r) (p - row_start s n t r) 0 = subst (λ j. get_or (packed_index s n t) j 0 ≡ get_or (row_columns s n t r) (p - row_start s n t r) 0) at_p (column_of s n t r (p - row_start s n t r) low short) in
       let value : get_or (packed_figures s n t) p s.zero ≡ t r (get_or (row_columns s n t r) (p - row_start s n t r) 0) = subst (λ j. get_or (packed_figures s n t) j s.zero ≡ t r (get_or (row_columns s n t r) (p - row_start s n t r) 0)) at_p (figure_of s n t r (p - row_start s n t r) low short) in
-      let is_stored = both_true _ _ (each_stored s r (t r) n (p - row_start s n t r) short) in
+      let is_stored = and_parts _ _ (each_stored s r (t r) n (p - row_start s n t r) short) in
       let start = start_at s n t r (omega arith) in
       let end : get_or (packed_index s n t) (r + 1) 0 ≡ row_start s n t r + length (row_columns s n t r) = start_at s n t (r + 1) (omega arith) ∙ rw add-one refl in
       record {
@@ -114,13 +99,13 @@ module _ {F : Type 0} (s : Semiring F) (n : ℕ) (t : Table F) where
         from = omega arith;
         to = omega arith;
         column_below = rw column (columns_below_n s r (t r) n (p - row_start s n t r) short);
-        off = λ e. not_true _ is_stored.0 (eq-eqb _ r (sym column ∙ e));
+        off = λ e. false≢true (sym (not-true _ is_stored.0) ∙ eq-eqb _ r (sym column ∙ e));
         rises = λ h.
             let at_before : row_start s n t r + (p - row_start s n t r - 1) ≡ p - 1 = omega arith in
             let before : get_or (packed_index s n t) (p - 1) 0 ≡ get_or (row_columns s n t r) (p - row_start s n t r - 1) 0 = subst (λ j. get_or (packed_index s n t) j 0 ≡ get_or (row_columns s n t r) (p - row_start s n t r - 1) 0) at_before (column_of s n t r (p - row_start s n t r - 1) low (omega arith)) in
             let up = columns_up s r (t r) n (p - row_start s n t r - 1) (p - row_start s n t r) (omega arith) short in
             omega arith;
-        figure = λ e. not_true _ is_stored.1 ((s.tests_zero _).1 (sym value ∙ e));
+        figure = λ e. iff_false (s.tests_zero _) (not-true _ is_stored.1) (sym value ∙ e);
       }
 
   pub packed_sound : Sound s n (packed_index s n t) (packed_figures s n t)
