@@ -1,5 +1,5 @@
 -- The columns that a row stores.
-use Rattle.std.proofs.Common.{◌≡◌, ℕ, zero, suc, ◌+◌, ◌<◌, ◌≤◌, true, false, cond, not, eqb, [], ◌∷◌, ◌++◌, length, get_or, refl, ap, ◌∙◌, ⊎_elim, add-one, arith}
+use Rattle.std.proofs.Common.{◌≡◌, ℕ, zero, suc, ◌+◌, ◌<◌, ◌≤◌, true, false, cond, not, eqb, [], ◌∷◌, ◌++◌, length, get_or, refl, ap, ◌∙◌, ◌⊎◌, inl, inr, ⊎_elim, add-one, arith}
 use Rattle.std.proofs.lemmas.List.{append-nil, length-append, length_push, get_or_append_left, get_or_push}
 use Rattle.std.proofs.Math.Bool.{and-false}
 use Rattle.std.proofs.lemmas.Bool.{cases_lt, cases_Bool}
@@ -44,18 +44,24 @@ module _ {F : Type 0} (s : Semiring F) (r : ℕ) (v : ℕ → F) where
       rw (same, at_n) (get_or_push (columns_below s r v n) n d _ refl))
       (cases_lt c n)
 
-  -- each column lies below the bound
-  pub columns_below_n : (n k : ℕ) → k < length (columns_below s r v n) → get_or (columns_below s r v n) k 0 < n
-  columns_below_n zero k h = absurd (omega arith)
-  columns_below_n (suc n) k h = ⊎_elim
-      (λ (low : k < length (columns_below s r v n)). rw (get_or_append_left (columns_below s r v n) (cond (stored s r v n) (n ∷ []) []) 0 k low) (let b = columns_below_n n k low in omega arith))
+  -- a place in one more column's list is a place in the list before, or its last, where that column stands
+  pub last_place : (n k : ℕ) → k < length (columns_below s r v (suc n)) → (k < length (columns_below s r v n)) ⊎ ((length (columns_below s r v n) ≡ k) × (stored s r v n ≡ true))
+  last_place n k h = ⊎_elim
+      inl
       (λ (high : length (columns_below s r v n) ≤ k). ⊎_elim
       (λ (e : stored s r v n ≡ true).
       let long : k < length (columns_below s r v n ++ n ∷ []) = rw e at h in
-      let at_end : length (columns_below s r v n) ≡ k = omega (arith, length_push (columns_below s r v n) n) in
-      rw (e, get_or_push (columns_below s r v n) n 0 k at_end) (omega arith))
+      inr (omega (arith, length_push (columns_below s r v n) n), e))
       (λ (e : stored s r v n ≡ false).
       let long : k < length (columns_below s r v n ++ []) = rw e at h in
       absurd (omega (arith, ap length (append-nil (columns_below s r v n)))))
       (cases_Bool (stored s r v n)))
       (cases_lt k (length (columns_below s r v n)))
+
+  -- each column lies below the bound
+  pub columns_below_n : (n k : ℕ) → k < length (columns_below s r v n) → get_or (columns_below s r v n) k 0 < n
+  columns_below_n zero k h = absurd (omega arith)
+  columns_below_n (suc n) k h = ⊎_elim
+      (λ (low : k < length (columns_below s r v n)). rw (get_or_append_left (columns_below s r v n) (cond (stored s r v n) (n ∷ []) []) 0 k low) (let b = columns_below_n n k low in omega arith))
+      (λ (last : (length (columns_below s r v n) ≡ k) × (stored s r v n ≡ true)). rw (last.1, get_or_push (columns_below s r v n) n 0 k last.0) (omega arith))
+      (last_place n k h)

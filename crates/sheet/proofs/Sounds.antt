@@ -1,13 +1,13 @@
 -- The packed form of a table is a sound sheet.
-use Rattle.std.proofs.Common.{◌≡◌, ℕ, zero, suc, ◌+◌, ◌-◌, ◌<◌, ◌≤◌, true, false, cond, [], ◌∷◌, ◌++◌, map, length, get_or, sym, refl, ap, ◌∙◌, subst, ⊎_elim, add-one, arith}
+use Rattle.std.proofs.Common.{◌≡◌, ℕ, zero, suc, ◌+◌, ◌-◌, ◌<◌, ◌≤◌, true, cond, [], ◌∷◌, map, length, get_or, sym, refl, ap, ◌∙◌, subst, ⊎_elim, add-one, arith}
 use Rattle.std.specs.List.{range_with_len}
-use Rattle.std.proofs.lemmas.List.{append-nil, length_push, get_or_append_left, get_or-append_right, get_or_push}
+use Rattle.std.proofs.lemmas.List.{get_or_append_left, get_or-append_right, get_or_push}
 use Rattle.std.proofs.lemmas.List.FromFn.{length-map-range_with_len}
-use Rattle.std.proofs.lemmas.Bool.{and_parts, not-true, iff_false, false≢true, cases_lt, cases_Bool, eq-eqb}
+use Rattle.std.proofs.lemmas.Bool.{and_parts, not-true, iff_false, false≢true, cases_lt, eq-eqb}
 use Rattle.arithmetic.specs.Semiring.{Semiring}
 use Rattle.matrix.specs.Tables.{Table}
 use Rattle.sheet.specs.Packed.{joined_over, stored, columns_below, row_columns, row_start, packed_index, packed_figures, Head, Cell, Sound}
-use Rattle.sheet.proofs.Columns.{columns_below_n}
+use Rattle.sheet.proofs.Columns.{last_place, columns_below_n}
 use Rattle.sheet.proofs.Packs.{start_at, column_of, figure_of}
 use Rattle.sheet.proofs.Same.{index_long}
 
@@ -17,16 +17,8 @@ module _ {F : Type 0} (s : Semiring F) (r : ℕ) (v : ℕ → F) where
   each_stored zero k h = absurd (omega arith)
   each_stored (suc n) k h = ⊎_elim
       (λ (low : k < length (columns_below s r v n)). rw (get_or_append_left (columns_below s r v n) (cond (stored s r v n) (n ∷ []) []) 0 k low) (each_stored n k low))
-      (λ (high : length (columns_below s r v n) ≤ k). ⊎_elim
-      (λ (e : stored s r v n ≡ true).
-      let long : k < length (columns_below s r v n ++ n ∷ []) = rw e at h in
-      let at_end : length (columns_below s r v n) ≡ k = omega (arith, length_push (columns_below s r v n) n) in
-      rw (e, get_or_push (columns_below s r v n) n 0 k at_end) e)
-      (λ (e : stored s r v n ≡ false).
-      let long : k < length (columns_below s r v n ++ []) = rw e at h in
-      absurd (omega (arith, ap length (append-nil (columns_below s r v n)))))
-      (cases_Bool (stored s r v n)))
-      (cases_lt k (length (columns_below s r v n)))
+      (λ (last : (length (columns_below s r v n) ≡ k) × (stored s r v n ≡ true)). rw (last.1, get_or_push (columns_below s r v n) n 0 k last.0) last.1)
+      (last_place s r v n k h)
 
   -- the columns of the list rise
   columns_up : (n j k : ℕ) → j + 1 ≡ k → k < length (columns_below s r v n) → get_or (columns_below s r v n) j 0 < get_or (columns_below s r v n) k 0
@@ -34,16 +26,10 @@ module _ {F : Type 0} (s : Semiring F) (r : ℕ) (v : ℕ → F) where
   columns_up (suc n) j k next h = ⊎_elim
       (λ (low : k < length (columns_below s r v n)).
       rw (get_or_append_left (columns_below s r v n) (cond (stored s r v n) (n ∷ []) []) 0 k low, get_or_append_left (columns_below s r v n) (cond (stored s r v n) (n ∷ []) []) 0 j (omega arith)) (columns_up n j k next low))
-      (λ (high : length (columns_below s r v n) ≤ k). ⊎_elim
-      (λ (e : stored s r v n ≡ true).
-      let long : k < length (columns_below s r v n ++ n ∷ []) = rw e at h in
-      let at_end : length (columns_below s r v n) ≡ k = omega (arith, length_push (columns_below s r v n) n) in
-      rw (e, get_or_push (columns_below s r v n) n 0 k at_end, get_or_append_left (columns_below s r v n) (n ∷ []) 0 j (omega arith)) (columns_below_n s r v n j (omega arith)))
-      (λ (e : stored s r v n ≡ false).
-      let long : k < length (columns_below s r v n ++ []) = rw e at h in
-      absurd (omega (arith, ap length (append-nil (columns_below s r v n)))))
-      (cases_Bool (stored s r v n)))
-      (cases_lt k (length (columns_below s r v n)))
+      (λ (last : (length (columns_below s r v n) ≡ k) × (stored s r v n ≡ true)).
+      let at_end = last.0 in
+      rw (last.1, get_or_push (columns_below s r v n) n 0 k at_end, get_or_append_left (columns_below s r v n) (n ∷ []) 0 j (omega arith)) (columns_below_n s r v n j (omega arith)))
+      (last_place s r v n k h)
 
 module _ {F : Type 0} (s : Semiring F) (n : ℕ) (t : Table F) where
   pub starts_up : (r m : ℕ) → r ≤ m → row_start s n t r ≤ row_start s n t m
