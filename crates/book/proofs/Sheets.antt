@@ -1,18 +1,14 @@
 -- The sheets of a sound book, one by one.
-use Rattle.std.proofs.Common.{◌≡◌, ℕ, ◌+◌, ◌-◌, ◌<◌, ◌≤◌, List, length, sym, refl, ◌∙◌, arith}
-use Rattle.std.proofs.lemmas.List.{length-take, length-drop}
+use Rattle.std.proofs.Common.{◌≡◌, ℕ, ◌+◌, ◌-◌, ◌<◌, ◌≤◌, length, sym, refl, ◌∙◌, arith}
 use Rattle.arithmetic.specs.Semiring.{Figures, meanings}
 use Rattle.sheet.specs.Packed.{Sound}
+use Rattle.sheet.proofs.Cells.{part_long}
 use Rattle.sheet.proofs.Found.{sound_rises, row_within}
 use Rattle.sheet.specs.Writing.{part}
 use Rattle.book.specs.Book.{Arrays, SoundBook, order_of, sheets_of, capacity, start_of, last_end, sheet_index, sheet_figures}
 use Rattle.book.specs.Lookups.{row_from, row_to}
 use Rattle.book.specs.Checked.{SheetLies}
 use Rattle.book.proofs.Starts.{lies, few, starts_rise}
-
--- how long a part of a list is
-pub part_long : {A : Type 0} (xs : List A) (from to : ℕ) → to ≤ length xs → length (part xs from to) ≡ to - from
-part_long xs from to within = simp (length-take, length-drop) (omega arith)
 
 module _ {S : Type 0} (a : Figures S) (b : Arrays S) (sound : SoundBook a b) where
   pub order_least : 1 ≤ order_of b

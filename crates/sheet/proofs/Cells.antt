@@ -19,7 +19,8 @@ use Rattle.sheet.proofs.Known.{sheet_sound}
 part_at : {A : Type 0} (xs : List A) (from to k : ℕ) (d : A) → k < to - from → get_or (part xs from to) k d ≡ get_or xs (from + k) d
 part_at xs from to k d h = get_or-take (to - from) (drop from xs) k d h ∙ get_or-drop from xs k d
 
-part_long : {A : Type 0} (xs : List A) (from to : ℕ) → to ≤ length xs → length (part xs from to) ≡ to - from
+-- how long a part of a list is
+pub part_long : {A : Type 0} (xs : List A) (from to : ℕ) → to ≤ length xs → length (part xs from to) ≡ to - from
 part_long xs from to h = simp (length-take, length-drop) (omega arith)
 
 -- the column and the figure of a pair are those of the stored cell of row i that comes after k others
