@@ -1,10 +1,11 @@
--- The columns that a row stores.
+-- The columns that a row stores, and where the rows start.
 use Rattle.std.proofs.Common.{◌≡◌, ℕ, zero, suc, ◌+◌, ◌<◌, ◌≤◌, true, false, cond, not, eqb, [], ◌∷◌, ◌++◌, length, get_or, refl, ap, ◌∙◌, ◌⊎◌, inl, inr, ⊎_elim, add-one, arith}
 use Rattle.std.proofs.lemmas.List.{append-nil, length-append, length_push, get_or_append_left, get_or_push}
 use Rattle.std.proofs.Math.Bool.{and-false}
 use Rattle.std.proofs.lemmas.Bool.{cases_lt, cases_Bool}
 use Rattle.arithmetic.specs.Semiring.{Semiring}
-use Rattle.sheet.specs.Packed.{stored, columns_below}
+use Rattle.matrix.specs.Tables.{Table}
+use Rattle.sheet.specs.Packed.{stored, columns_below, row_start}
 
 module _ {F : Type 0} (s : Semiring F) (r : ℕ) (v : ℕ → F) where
   -- a cell that is zero is not stored
@@ -65,3 +66,11 @@ module _ {F : Type 0} (s : Semiring F) (r : ℕ) (v : ℕ → F) where
       (λ (low : k < length (columns_below s r v n)). rw (get_or_append_left (columns_below s r v n) (cond (stored s r v n) (n ∷ []) []) 0 k low) (let b = columns_below_n n k low in omega arith))
       (λ (last : (length (columns_below s r v n) ≡ k) × (stored s r v n ≡ true)). rw (last.1, get_or_push (columns_below s r v n) n 0 k last.0) (omega arith))
       (last_place n k h)
+
+-- the starts grow with the rows
+pub starts_grow : {F : Type 0} (s : Semiring F) (n : ℕ) (t : Table F) (r m : ℕ) → r ≤ m → row_start s n t r ≤ row_start s n t m
+starts_grow s n t r zero low = let e : r ≡ 0 = omega arith in rw e (omega arith)
+starts_grow s n t r (suc m) low = ⊎_elim
+    (λ (h : r < suc m). let before = starts_grow s n t r m (omega arith) in omega arith)
+    (λ (h : suc m ≤ r). let e : r ≡ suc m = omega arith in rw e (omega arith))
+    (cases_lt r (suc m))

@@ -9,7 +9,7 @@ use Rattle.matrix.specs.Tables.{Table}
 use Rattle.matrix.proofs.Meant.{length-meanings}
 use Rattle.sheet.specs.Packed.{joined_over, stored, columns_below, row_columns, row_start, packed_length}
 use Rattle.sheet.specs.Writing.{overlaid, Written, RowStarted, EntryWritten}
-use Rattle.sheet.proofs.Columns.{zero_not_stored, columns_yes, columns_no, columns_room, columns_grow}
+use Rattle.sheet.proofs.Columns.{zero_not_stored, columns_yes, columns_no, columns_room, columns_grow, starts_grow}
 use Rattle.sheet.proofs.Packs.{row_start_is, figures_long}
 use Rattle.sheet.proofs.Halves.{half, half_none, half_mark, half_again, half_push, half_all}
 
@@ -18,14 +18,6 @@ ltb_apart r c ne = ⊎_elim
     (λ (h : r < c). lt-ltb r c h ∙ sym (lt-ltb r (c + 1) (omega arith)))
     (λ (h : c ≤ r). le-ltb r c h ∙ sym (le-ltb r (c + 1) (omega (arith, ne))))
     (cases_lt r c)
-
--- the starts grow with the rows
-pub starts_grow : {F : Type 0} (s : Semiring F) (n : ℕ) (t : Table F) (r m : ℕ) → r ≤ m → row_start s n t r ≤ row_start s n t m
-starts_grow s n t r zero low = let e : r ≡ 0 = omega arith in rw e (omega arith)
-starts_grow s n t r (suc m) low = ⊎_elim
-    (λ (h : r < suc m). let before = starts_grow s n t r m (omega arith) in omega arith)
-    (λ (h : suc m ≤ r). let e : r ≡ suc m = omega arith in rw e (omega arith))
-    (cases_lt r (suc m))
 
 module _ {F : Type 0} (s : Semiring F) (n : ℕ) (t : Table F) where
   -- the columns of the stored cells before (r, c), and their figures

@@ -7,7 +7,7 @@ use Rattle.std.proofs.lemmas.Bool.{and_parts, not-true, iff_false, false≢true,
 use Rattle.arithmetic.specs.Semiring.{Semiring}
 use Rattle.matrix.specs.Tables.{Table}
 use Rattle.sheet.specs.Packed.{joined_over, stored, columns_below, row_columns, row_start, packed_index, packed_figures, Head, Cell, Sound}
-use Rattle.sheet.proofs.Columns.{last_place, columns_below_n}
+use Rattle.sheet.proofs.Columns.{last_place, columns_below_n, starts_grow}
 use Rattle.sheet.proofs.Packs.{start_at, column_of, figure_of}
 use Rattle.sheet.proofs.Same.{index_long}
 
@@ -32,13 +32,6 @@ module _ {F : Type 0} (s : Semiring F) (r : ℕ) (v : ℕ → F) where
       (last_place s r v n k h)
 
 module _ {F : Type 0} (s : Semiring F) (n : ℕ) (t : Table F) where
-  pub starts_up : (r m : ℕ) → r ≤ m → row_start s n t r ≤ row_start s n t m
-  starts_up r zero low = let e : r ≡ 0 = omega arith in rw e (omega arith)
-  starts_up r (suc m) low = ⊎_elim
-      (λ (h : r < suc m). let before = starts_up r m (omega arith) in omega arith)
-      (λ (h : suc m ≤ r). let e : r ≡ suc m = omega arith in rw e (omega arith))
-      (cases_lt r (suc m))
-
   -- the row that a position past the head lies in
   pub row_of : (p m : ℕ) → n < p → p < row_start s n t m → (r : ℕ) × (r < m) × (row_start s n t r ≤ p) × (p < row_start s n t r + length (row_columns s n t r))
   row_of p zero past low = absurd (omega arith)
@@ -51,10 +44,10 @@ module _ {F : Type 0} (s : Semiring F) (n : ℕ) (t : Table F) where
   packed_head p low =
       let here = start_at s n t p low in
       let long = index_long s n t in
-      let up = starts_up p n low in
+      let up = starts_grow s n t p n low in
       record {
         first = λ e. rw e (start_at s n t 0 (omega arith));
-        rises = λ h. let before = start_at s n t (p - 1) (omega arith) in let step = starts_up (p - 1) p (omega arith) in omega arith;
+        rises = λ h. let before = start_at s n t (p - 1) (omega arith) in let step = starts_grow s n t (p - 1) p (omega arith) in omega arith;
         within = omega arith;
         last = λ e. let there : row_start s n t p ≡ row_start s n t n = ap (row_start s n t) e in omega arith;
         spare = λ e.
@@ -96,6 +89,6 @@ module _ {F : Type 0} (s : Semiring F) (n : ℕ) (t : Table F) where
 
   pub packed_sound : Sound s n (packed_index s n t) (packed_figures s n t)
   packed_sound = record {
-    room = let long = index_long s n t in let up = starts_up 0 n (omega arith) in omega arith;
+    room = let long = index_long s n t in let up = starts_grow s n t 0 n (omega arith) in omega arith;
     rules = λ p within. record { head = λ low. packed_head p low; cell = λ past. packed_cell p past within };
   }

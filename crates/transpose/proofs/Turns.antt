@@ -7,8 +7,7 @@ use Rattle.matrix.specs.Tables.{Table}
 use Rattle.matrix.proofs.Meant.{length-meanings, meanings_set}
 use Rattle.sheet.specs.Packed.{stored, columns_below, row_columns, row_start, packed_length, packed_index, packed_figures}
 use Rattle.sheet.specs.Writing.{overlaid, Written}
-use Rattle.sheet.proofs.Columns.{columns_at, columns_room}
-use Rattle.sheet.proofs.Laying.{starts_grow}
+use Rattle.sheet.proofs.Columns.{columns_at, columns_room, starts_grow}
 use Rattle.sheet.proofs.Packs.{start_at, diagonal_at, column_of, figure_of}
 use Rattle.sheet.proofs.Same.{index_long, figures_long_too}
 use Rattle.sheet.proofs.Sounds.{packed_sound, row_of}
