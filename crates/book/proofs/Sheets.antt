@@ -11,9 +11,6 @@ use Rattle.book.specs.Checked.{SheetLies}
 use Rattle.book.proofs.Starts.{lies, few, starts_rise}
 
 module _ {S : Type 0} (a : Figures S) (b : Arrays S) (sound : SoundBook a b) where
-  pub order_least : 1 ≤ order_of b
-  order_least = ((sound.header_rules 0 (omega arith)).order (omega arith)).0
-
   pub order_most : order_of b ≤ 1024
   order_most = ((sound.header_rules 0 (omega arith)).order (omega arith)).1
 
@@ -73,6 +70,3 @@ module _ {S : Type 0} (a : Figures S) (b : Arrays S) (sound : SoundBook a b) whe
 module _ {S : Type 0} (a : Figures S) (b : Arrays S) (k from to : ℕ) (at : SheetLies a b k (from, to)) where
   pub place_sound : Sound a.ring (order_of b) (part b.index from to) (meanings a (part b.figures from to))
   place_sound = rw (at.from, at.to) (sheet_sound a b at.sound k at.there)
-
-  pub place_long : length (part b.figures from to) ≡ length (part b.index from to)
-  place_long = rw (at.from, at.to) (sheet_figures_long a b at.sound k at.there)

@@ -184,9 +184,6 @@ pub record Counted {S : Type 0} (a : Figures S) (n : ℕ) (rows columns : List �
   pub count_is : count ≡ spot a.ring n (listed a rows columns figs) row column
 
 module _ {S : Type 0} (a : Figures S) (n : ℕ) (rows columns : List ℕ) (figs : List S) (even : length columns ≡ length rows) (even' : length figs ≡ length rows) (placed : (k : ℕ) → k < length rows → Placed n rows columns k) where
-  pub counted_none : 1 ≤ n → Counted a n rows columns figs 0 (n + 1)
-  counted_none some = record { row = 0; column = 0; row_within = omega arith; column_within = omega arith; frontier = frontier_none a n rows columns figs even even' placed; count_is = omega arith }
-
   -- the count stays small
   pub counted_small : n ≤ 1024 → (k count : ℕ) → Counted a n rows columns figs k count → count < 2000000
   counted_small small k count m =
