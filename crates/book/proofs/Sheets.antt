@@ -1,5 +1,5 @@
 -- The sheets of a sound book, one by one.
-use Rattle.std.proofs.Common.{◌≡◌, ℕ, ◌+◌, ◌-◌, ◌<◌, ◌≤◌, length, sym, refl, ◌∙◌, arith}
+use Rattle.std.proofs.Common.{◌≡◌, ℕ, ◌+◌, ◌-◌, ◌<◌, ◌≤◌, length, refl, arith}
 use Rattle.arithmetic.specs.Semiring.{Figures, meanings}
 use Rattle.sheet.specs.Packed.{Sound}
 use Rattle.sheet.proofs.Cells.{part_long}
@@ -30,12 +30,6 @@ module _ {S : Type 0} (a : Figures S) (b : Arrays S) (sound : SoundBook a b) whe
 
     pub sheet_index_long : length (sheet_index b k) ≡ start_of b (k + 1) - start_of b k
     sheet_index_long = part_long b.index (start_of b k) (start_of b (k + 1)) sheet_to
-
-    pub sheet_figures_long : length (part b.figures (start_of b k) (start_of b (k + 1))) ≡ length (sheet_index b k)
-    sheet_figures_long =
-        let to = sheet_to in
-        let same = sound.lengths in
-        part_long b.figures (start_of b k) (start_of b (k + 1)) (omega arith) ∙ sym sheet_index_long
 
     pub sheet_sound : Sound a.ring (order_of b) (sheet_index b k) (sheet_figures a b k)
     sheet_sound =
