@@ -32,12 +32,19 @@ module _ {F : Type 0} (s : Semiring F) (r : ℕ) (v : ℕ → F) where
       (last_place s r v n k h)
 
 module _ {F : Type 0} (s : Semiring F) (n : ℕ) (t : Table F) where
-  -- the row that a position past the head lies in
-  pub row_of : (p m : ℕ) → n < p → p < row_start s n t m → (r : ℕ) × (r < m) × (row_start s n t r ≤ p) × (p < row_start s n t r + length (row_columns s n t r))
+  -- where a position past the head lies: in a row below m, so many places past its start
+  pub record InRow (p m : ℕ) : Type 0 where
+    pub row : ℕ
+    pub row_below : row < m
+    pub place : ℕ
+    pub is : row_start s n t row + place ≡ p
+    pub short : place < length (row_columns s n t row)
+
+  pub row_of : (p m : ℕ) → n < p → p < row_start s n t m → InRow p m
   row_of p zero past low = absurd (omega arith)
   row_of p (suc m) past low = ⊎_elim
-      (λ (h : p < row_start s n t m). let found = row_of p m past h in (found.0, (let b = found.1 in omega arith), found.2, found.3))
-      (λ (h : row_start s n t m ≤ p). (m, omega arith, h, low))
+      (λ (h : p < row_start s n t m). let found = row_of p m past h in record { row = found.row; row_below = let below = found.row_below in omega arith; place = found.place; is = found.is; short = found.short })
+      (λ (h : row_start s n t m ≤ p). record { row = m; row_below = omega arith; place = p - row_start s n t m; is = omega arith; short = omega arith })
       (cases_lt p (row_start s n t m))
 
   packed_head : (p : ℕ) → p ≤ n → Head s n (packed_index s n t) (packed_figures s n t) p
@@ -56,36 +63,31 @@ module _ {F : Type 0} (s : Semiring F) (n : ℕ) (t : Table F) where
             ∙ rw none refl;
       }
 
-  packed_cell : (p : ℕ) → n < p → p < length (packed_index s n t) → Cell s n (packed_index s n t) (packed_figures s n t) p
-  packed_cell p past within =
-      let long = index_long s n t in
-      let found = row_of p n past (omega arith) in
-      let r = found.0 in
-      let low : r < n = found.1 in
-      let from : row_start s n t r ≤ p = found.2 in
-      let to : p < row_start s n t r + length (row_columns s n t r) = found.3 in
-      let q = p - row_start s n t r in
-      let at_p : row_start s n t r + (p - row_start s n t r) ≡ p = omega arith in
-      let short : p - row_start s n t r < length (row_columns s n t r) = omega arith in
-      let column : get_or (packed_index s n t) p 0 ≡ get_or (row_columns s n t r) (p - row_start s n t r) 0 = subst (λ j. get_or (packed_index s n t) j 0 ≡ get_or (row_columns s n t r) (p - row_start s n t r) 0) at_p (column_of s n t r (p - row_start s n t r) low short) in
-      let value : get_or (packed_figures s n t) p s.zero ≡ t r (get_or (row_columns s n t r) (p - row_start s n t r) 0) = subst (λ j. get_or (packed_figures s n t) j s.zero ≡ t r (get_or (row_columns s n t r) (p - row_start s n t r) 0)) at_p (figure_of s n t r (p - row_start s n t r) low short) in
-      let is_stored = and_parts _ _ (each_stored s r (t r) n (p - row_start s n t r) short) in
+  cell_in_row : (r q : ℕ) → r < n → q < length (row_columns s n t r) → Cell s n (packed_index s n t) (packed_figures s n t) (row_start s n t r + q)
+  cell_in_row r q low short =
+      let column = column_of s n t r q low short in
       let start = start_at s n t r (omega arith) in
       let end : get_or (packed_index s n t) (r + 1) 0 ≡ row_start s n t r + length (row_columns s n t r) = start_at s n t (r + 1) (omega arith) ∙ rw add-one refl in
+      let is_stored = and_parts _ _ (each_stored s r (t r) n q short) in
       record {
         row = r;
         row_below = low;
         from = omega arith;
         to = omega arith;
-        column_below = rw column (columns_below_n s r (t r) n (p - row_start s n t r) short);
+        column_below = rw column (columns_below_n s r (t r) n q short);
         off = λ e. false≢true (sym (not-true _ is_stored.0) ∙ eq-eqb _ r (sym column ∙ e));
         rises = λ h.
-            let at_before : row_start s n t r + (p - row_start s n t r - 1) ≡ p - 1 = omega arith in
-            let before : get_or (packed_index s n t) (p - 1) 0 ≡ get_or (row_columns s n t r) (p - row_start s n t r - 1) 0 = subst (λ j. get_or (packed_index s n t) j 0 ≡ get_or (row_columns s n t r) (p - row_start s n t r - 1) 0) at_before (column_of s n t r (p - row_start s n t r - 1) low (omega arith)) in
-            let up = columns_up s r (t r) n (p - row_start s n t r - 1) (p - row_start s n t r) (omega arith) short in
+            let at_before : row_start s n t r + (q - 1) ≡ row_start s n t r + q - 1 = omega arith in
+            let before = rw at_before at (column_of s n t r (q - 1) low (omega arith)) in
+            let up = columns_up s r (t r) n (q - 1) q (omega arith) short in
             omega arith;
-        figure = λ e. iff_false (s.tests_zero _) (not-true _ is_stored.1) (sym value ∙ e);
+        figure = λ e. iff_false (s.tests_zero _) (not-true _ is_stored.1) (sym (figure_of s n t r q low short) ∙ e);
       }
+
+  packed_cell : (p : ℕ) → n < p → p < length (packed_index s n t) → Cell s n (packed_index s n t) (packed_figures s n t) p
+  packed_cell p past within =
+      let found = row_of p n past (omega (arith, index_long s n t)) in
+      subst (Cell s n (packed_index s n t) (packed_figures s n t)) found.is (cell_in_row found.row found.place found.row_below found.short)
 
   pub packed_sound : Sound s n (packed_index s n t) (packed_figures s n t)
   packed_sound = record {
