@@ -41,7 +41,7 @@ module _ {S : Type 0} (a : Figures S) (b : Arrays S) (h : Headed b) where
       (λ (less : suc j ≤ i). let e : i ≡ suc j = omega arith in rw e (omega arith))
       (cases_lt i (suc j))
 
-  sheet_long : (j : ℕ) → j < sheets_of b → length (sheet_index b j) ≡ start_of b (j + 1) - start_of b j
+  pub sheet_long : (j : ℕ) → j < sheets_of b → length (sheet_index b j) ≡ start_of b (j + 1) - start_of b j
   sheet_long j low =
       let e : 2 + (j + 1) ≡ 3 + j = omega arith in
       let fits = (lies b.header (length b.index) h j low).within in
