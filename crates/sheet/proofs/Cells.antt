@@ -16,7 +16,8 @@ use Rattle.sheet.specs.Writing.{part}
 use Rattle.sheet.proofs.Found.{sound_rises, row_within, cell_at}
 use Rattle.sheet.proofs.Known.{sheet_sound}
 
-part_at : {A : Type 0} (xs : List A) (from to k : ℕ) (d : A) → k < to - from → get_or (part xs from to) k d ≡ get_or xs (from + k) d
+-- what stands at a place of a part of a list
+pub part_at : {A : Type 0} (xs : List A) (from to k : ℕ) (d : A) → k < to - from → get_or (part xs from to) k d ≡ get_or xs (from + k) d
 part_at xs from to k d h = get_or-take (to - from) (drop from xs) k d h ∙ get_or-drop from xs k d
 
 -- how long a part of a list is

@@ -1,12 +1,13 @@
 -- A sound sheet is the packed form of its table: a table has one packed form.
 use Rattle.std.proofs.Common.{◌≡◌, ℕ, zero, suc, ◌+◌, ◌-◌, ◌<◌, ◌≤◌, true, false, List, [], ◌∷◌, ◌++◌, length, get_or, take, drop, sym, refl, ap, ◌∙◌, subst, ap₂, ⊎_elim, add-one, arith}
-use Rattle.std.proofs.lemmas.List.{ext_get_or, length-take-le, length-drop, take_more, get_or-take, get_or-drop}
+use Rattle.std.proofs.lemmas.List.{ext_get_or, length-take-le, length-drop, take_more, get_or-drop}
 use Rattle.std.proofs.lemmas.Bool.{cases_lt, cases_eq, cases_Bool, eq-eqb, ne_eqb, and_from, and_left, and_right, not_from_true, not_from_false}
 use Rattle.arithmetic.specs.Semiring.{Semiring}
 use Rattle.matrix.specs.Tables.{Table, Same}
 use Rattle.sheet.specs.Packed.{stored, columns_below, row_columns, row_start, packed_length, packed_index, packed_figures, Sound, found, table}
 use Rattle.sheet.specs.Forms.{PackedFormExists, PackedFormIsUnique, SoundSheetIsPacked}
 use Rattle.sheet.proofs.Columns.{columns_yes, columns_no}
+use Rattle.sheet.proofs.Cells.{part_at}
 use Rattle.sheet.proofs.Found.{sound_rises, row_past, row_within, cell_at, columns_rise, not_found, table_here, table_off}
 use Rattle.sheet.proofs.Packs.{start_at, diagonal_at, column_of, figure_of, table_packed}
 use Rattle.sheet.proofs.Same.{packed_index_same, packed_figures_same, index_long, figures_long_too}
@@ -144,7 +145,7 @@ module _ {F : Type 0} (s : Semiring F) (n : ℕ) (ws : List ℕ) (fs : List F) (
     pub row_column : (q : ℕ) → q < get_or ws (r + 1) 0 - get_or ws r 0 → get_or (row_columns s n (table s ws fs) r) q 0 ≡ get_or ws (get_or ws r 0 + q) 0
     row_column q short =
         ap (λ l. get_or l q 0) row_is
-        ∙ (get_or-take (get_or ws (r + 1) 0 - get_or ws r 0) (drop (get_or ws r 0) ws) q 0 short ∙ get_or-drop (get_or ws r 0) ws q 0)
+        ∙ part_at ws (get_or ws r 0) (get_or ws (r + 1) 0) q 0 short
 
   -- the starts of the rows are those of the table
   pub start_is : (r : ℕ) → r ≤ n → row_start s n (table s ws fs) r ≡ get_or ws r 0
