@@ -1,5 +1,5 @@
 -- A sheet that is written cell by cell, in the order of rows and columns.
-use Rattle.std.proofs.Common.{◌≡◌, ℕ, zero, suc, ◌+◌, ◌<◌, ◌≤◌, true, false, cond, not, ltb, ◌⊎◌, List, [], ◌∷◌, ◌++◌, map, length, set, sym, refl, ap, ◌∙◌, subst, ap₂, ⊎_elim, append_assoc, add-one, arith}
+use Rattle.std.proofs.Common.{◌≡◌, ℕ, zero, suc, ◌+◌, ◌<◌, ◌≤◌, Bool, true, false, cond, not, ltb, ◌⊎◌, List, [], ◌∷◌, ◌++◌, map, length, set, sym, refl, ap, ◌∙◌, subst, ap₂, ⊎_elim, append_assoc, add-one, arith}
 use Rattle.std.specs.List.{range_with_len}
 use Rattle.std.proofs.lemmas.List.{append-nil, length-append, length-map, length_push, map-append, map_push}
 use Rattle.std.proofs.lemmas.List.FromFn.{length-map-range_with_len, map-range_with_len_more}
@@ -40,6 +40,11 @@ module _ {F : Type 0} (s : Semiring F) (n : ℕ) (t : Table F) where
   -- the cells of a row end where the next row starts
   pub spot_row : (r : ℕ) → spot (suc r) 0 ≡ spot r n
   spot_row r = omega arith
+
+  -- past a cell, the place is one further if the cell is stored
+  pub spot_more : (r c : ℕ) (b : Bool) → stored s r (t r) c ≡ b → spot r c + cond b 1 0 ≡ spot r (c + 1)
+  spot_more r c true e = rw (columns_yes s r (t r) c e) (simp length_push (omega arith))
+  spot_more r c false e = rw (columns_no s r (t r) c e) (omega arith)
 
   pub spot_within : (r c : ℕ) → r < n → c ≤ n → spot r c ≤ packed_length s n t
   spot_within r c low le =
