@@ -1,6 +1,5 @@
 -- The sheets of a sound book, one by one.
-use Rattle.std.proofs.Common.{◌≡◌, ℕ, ◌+◌, ◌-◌, ◌<◌, ◌≤◌, List, length, sym, refl, ◌∙◌, arith}
-use Rattle.std.proofs.lemmas.List.{length-take, length-drop}
+use Rattle.std.proofs.Common.{◌≡◌, ℕ, ◌+◌, ◌-◌, ◌<◌, ◌≤◌, refl, arith}
 use Rattle.arithmetic.specs.Semiring.{Figures, meanings}
 use Rattle.sheet.specs.Packed.{Sound}
 use Rattle.sheet.proofs.Found.{sound_rises, row_within}
@@ -8,16 +7,9 @@ use Rattle.sheet.specs.Writing.{part}
 use Rattle.book.specs.Book.{Arrays, SoundBook, order_of, sheets_of, capacity, start_of, last_end, sheet_index, sheet_figures}
 use Rattle.book.specs.Lookups.{row_from, row_to}
 use Rattle.book.specs.Checked.{SheetLies}
-use Rattle.book.proofs.Starts.{lies, few, starts_rise}
-
--- how long a part of a list is
-pub part_long : {A : Type 0} (xs : List A) (from to : ℕ) → to ≤ length xs → length (part xs from to) ≡ to - from
-part_long xs from to within = simp (length-take, length-drop) (omega arith)
+use Rattle.book.proofs.Starts.{lies, sheet_long, few, starts_rise}
 
 module _ {S : Type 0} (a : Figures S) (b : Arrays S) (sound : SoundBook a b) where
-  pub order_least : 1 ≤ order_of b
-  order_least = ((sound.header_rules 0 (omega arith)).order (omega arith)).0
-
   pub order_most : order_of b ≤ 1024
   order_most = ((sound.header_rules 0 (omega arith)).order (omega arith)).1
 
@@ -35,18 +27,9 @@ module _ {S : Type 0} (a : Figures S) (b : Arrays S) (sound : SoundBook a b) whe
     pub sheet_before : start_of b (k + 1) ≤ last_end b
     sheet_before = starts_rise a b sound.header_rules (k + 1) (sheets_of b) (omega arith) (omega arith)
 
-    pub sheet_index_long : length (sheet_index b k) ≡ start_of b (k + 1) - start_of b k
-    sheet_index_long = part_long b.index (start_of b k) (start_of b (k + 1)) sheet_to
-
-    pub sheet_figures_long : length (part b.figures (start_of b k) (start_of b (k + 1))) ≡ length (sheet_index b k)
-    sheet_figures_long =
-        let to = sheet_to in
-        let same = sound.lengths in
-        part_long b.figures (start_of b k) (start_of b (k + 1)) (omega arith) ∙ sym sheet_index_long
-
     pub sheet_sound : Sound a.ring (order_of b) (sheet_index b k) (sheet_figures a b k)
     sheet_sound =
-        let long = sheet_index_long in
+        let long = sheet_long a b sound.header_rules k low in
         let from = sheet_from in
         let end = sheet_before in
         record {
@@ -68,7 +51,7 @@ module _ {S : Type 0} (a : Figures S) (b : Arrays S) (sound : SoundBook a b) whe
 
     pub row_ends : (row : ℕ) → row < order_of b → row_to b k row ≤ start_of b (k + 1)
     row_ends row below =
-        let long = sheet_index_long in
+        let long = sheet_long a b sound.header_rules k low in
         let from = sheet_from in
         let end = row_within a.ring (order_of b) (sheet_index b k) (sheet_figures a b k) sheet_sound (row + 1) (omega arith) in
         omega arith
@@ -77,6 +60,3 @@ module _ {S : Type 0} (a : Figures S) (b : Arrays S) (sound : SoundBook a b) whe
 module _ {S : Type 0} (a : Figures S) (b : Arrays S) (k from to : ℕ) (at : SheetLies a b k (from, to)) where
   pub place_sound : Sound a.ring (order_of b) (part b.index from to) (meanings a (part b.figures from to))
   place_sound = rw (at.from, at.to) (sheet_sound a b at.sound k at.there)
-
-  pub place_long : length (part b.figures from to) ≡ length (part b.index from to)
-  place_long = rw (at.from, at.to) (sheet_figures_long a b at.sound k at.there)

@@ -1,9 +1,9 @@
 -- The starts of the sheets of a book whose header is sound.
 use Rattle.std.proofs.Common.{◌≡◌, ℕ, zero, suc, ◌+◌, ◌-◌, ◌<◌, ◌≤◌, List, length, get_or, refl, ⊎_elim, arith}
-use Rattle.std.proofs.lemmas.List.{length-take, length-drop}
 use Rattle.std.proofs.lemmas.Bool.{cases_lt, cases_order}
 use Rattle.arithmetic.specs.Semiring.{Figures}
 use Rattle.sheet.specs.Packed.{Rule, FirstBreak}
+use Rattle.sheet.proofs.Cells.{part_long}
 use Rattle.book.specs.Book.{Arrays, HeaderRule, PositionRule, order_of, sheets_of, start_of, last_end, sheet_index, sheet_figures}
 use Rattle.book.specs.Checked.{Headed}
 
@@ -41,12 +41,12 @@ module _ {S : Type 0} (a : Figures S) (b : Arrays S) (h : Headed b) where
       (λ (less : suc j ≤ i). let e : i ≡ suc j = omega arith in rw e (omega arith))
       (cases_lt i (suc j))
 
-  sheet_long : (j : ℕ) → j < sheets_of b → length (sheet_index b j) ≡ start_of b (j + 1) - start_of b j
+  pub sheet_long : (j : ℕ) → j < sheets_of b → length (sheet_index b j) ≡ start_of b (j + 1) - start_of b j
   sheet_long j low =
       let e : 2 + (j + 1) ≡ 3 + j = omega arith in
       let fits = (lies b.header (length b.index) h j low).within in
       let within : start_of b (j + 1) ≤ length b.index = rw e fits in
-      simp (length-take, length-drop) (omega arith)
+      part_long b.index (start_of b j) (start_of b (j + 1)) within
 
   pub all_keep : SheetsKeep a b (sheets_of b) → (q : ℕ) → PositionRule a b q
   all_keep keep q k low from to = keep k low (q - start_of b k) (rw (sheet_long k low) (omega arith))

@@ -7,7 +7,8 @@ use Rattle.matrix.specs.Tables.{Table}
 use Rattle.matrix.proofs.Meant.{length-meanings}
 use Rattle.sheet.specs.Packed.{Sound, packed_length, packed_index}
 use Rattle.sheet.specs.Writing.{part}
-use Rattle.sheet.proofs.Sounds.{starts_up, packed_sound}
+use Rattle.sheet.proofs.Columns.{starts_grow}
+use Rattle.sheet.proofs.Sounds.{packed_sound}
 use Rattle.sheet.proofs.Same.{index_long, figures_long_too}
 use Rattle.book.specs.Book.{Arrays, SoundBook, HeaderRule, OneMore, order_of, sheets_of, capacity, start_of, last_end, sheet_index, sheet_figures}
 use Rattle.book.proofs.Starts.{all_keep}
@@ -121,7 +122,7 @@ module _ {S : Type 0} (a : Figures S) (b : Arrays S) (sound : SoundBook a b) (t 
             (λ (h : 3 + K ≤ w).
             let e : w ≡ 2 + (K + 1) = omega arith in
             let d : w - 1 ≡ 2 + K = omega arith in
-            let up = starts_up a.ring (order_of b) t 0 (order_of b) (omega arith) in
+            let up = starts_grow a.ring (order_of b) t 0 (order_of b) (omega arith) in
             let from = start_stays K (omega arith) in
             let to = new_end in
             let here : get_or c.header w 0 ≡ last_end b + size = rw e to in

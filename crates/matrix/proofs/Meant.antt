@@ -1,6 +1,6 @@
 -- What a figure read from a slice means.
-use Rattle.std.proofs.Common.{◌≡◌, ℕ, ◌<◌, List, length, get_or, set, replicate, sym, ap, ◌∙◌}
-use Rattle.std.proofs.lemmas.List.{get_or-map, map-set, length-map, length-replicate, get_or-replicate}
+use Rattle.std.proofs.Common.{◌≡◌, ℕ, ◌<◌, List, length, get_or, set, sym, ap, ◌∙◌}
+use Rattle.std.proofs.lemmas.List.{get_or-map, map-set, length-map}
 use Rattle.arithmetic.specs.Semiring.{Figures, meanings}
 
 pub read_means : {S : Type 0} (a : Figures S) (xs : List S) (i : ℕ) (x : S) (d : a.F) → i < length xs → x ≡ get_or xs i x → a.meaning x ≡ get_or (meanings a xs) i d
@@ -12,10 +12,6 @@ meanings_set a xs i v = map-set a.meaning xs i v
 pub length-meanings : {S : Type 0} (a : Figures S) (xs : List S) → length (meanings a xs) ≡ length xs
 length-meanings a xs = length-map xs a.meaning
 
--- an array filled with one figure
-pub blank_means : {S : Type 0} (a : Figures S) (n i : ℕ) (z : S) (d : a.F) → i < n → get_or (meanings a (replicate n z)) i d ≡ a.meaning z
-blank_means a n i z d h = let low : i < length (replicate n z) = rw length-replicate h in get_or-map a.meaning (replicate n z) i z d low ∙ ap a.meaning (get_or-replicate n i z z h)
-
--- the same for an element of an array, which is read as `get_or xs i x`
+-- read_means for an element of an array, which is read as `get_or xs i x`
 pub at_means : {S : Type 0} (a : Figures S) (xs : List S) (i : ℕ) (x : S) (d : a.F) → i < length xs → a.meaning (get_or xs i x) ≡ get_or (meanings a xs) i d
 at_means a xs i x d within = sym (get_or-map a.meaning xs i x d within)

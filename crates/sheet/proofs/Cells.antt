@@ -1,6 +1,6 @@
 -- A row of a sheet, walked by its columns and its figures together.
-use Rattle.std.proofs.Common.{◌≡◌, ℕ, ◌+◌, ◌-◌, ◌<◌, ◌≤◌, List, length, get_or, drop, Option, Some, None, Bor, Iter, ap, ◌∙◌, arith}
-use Rattle.std.proofs.lemmas.List.{get_or-take, get_or-drop, length-take, length-drop}
+use Rattle.std.proofs.Common.{◌≡◌, ℕ, ◌+◌, ◌-◌, ◌<◌, ◌≤◌, List, [], ◌∷◌, ◌++◌, length, get_or, drop, Option, Some, None, Bor, Iter, ap, ◌∙◌, arith}
+use Rattle.std.proofs.lemmas.List.{length_push, get_or-take, get_or-drop, length-take, length-drop}
 use Rattle.std.proofs.lemmas.Slice.Zip.{zip_turn, zip_end}
 use Rattle.std.proofs.lemmas.Iterator.{zips}
 use Rattle.std.proofs.iter.Yields.{fronts}
@@ -16,10 +16,12 @@ use Rattle.sheet.specs.Writing.{part}
 use Rattle.sheet.proofs.Found.{sound_rises, row_within, cell_at}
 use Rattle.sheet.proofs.Known.{sheet_sound}
 
-part_at : {A : Type 0} (xs : List A) (from to k : ℕ) (d : A) → k < to - from → get_or (part xs from to) k d ≡ get_or xs (from + k) d
+-- what stands at a place of a part of a list
+pub part_at : {A : Type 0} (xs : List A) (from to k : ℕ) (d : A) → k < to - from → get_or (part xs from to) k d ≡ get_or xs (from + k) d
 part_at xs from to k d h = get_or-take (to - from) (drop from xs) k d h ∙ get_or-drop from xs k d
 
-part_long : {A : Type 0} (xs : List A) (from to : ℕ) → to ≤ length xs → length (part xs from to) ≡ to - from
+-- how long a part of a list is
+pub part_long : {A : Type 0} (xs : List A) (from to : ℕ) → to ≤ length xs → length (part xs from to) ≡ to - from
 part_long xs from to h = simp (length-take, length-drop) (omega arith)
 
 -- the column and the figure of a pair are those of the stored cell of row i that comes after k others
@@ -28,6 +30,10 @@ pub record Turn {S : Type 0} (a : Figures S) (n : ℕ) (ws : List ℕ) (fs : Lis
   pub column : pair.0.now ≡ get_or ws (get_or ws i 0 + k) 0
   pub below : get_or ws (get_or ws i 0 + k) 0 < n
   pub figure : a.meaning pair.1.now ≡ get_or (meanings a fs) (get_or ws i 0 + k) a.ring.zero
+
+-- after one more pair, the place in the row is one further
+pub next_place : {P : Type 0} (p : ℕ) (ps : List P) (pair : P) → p + length (ps ++ pair ∷ []) ≡ p + length ps + 1
+next_place p ps pair = omega (arith, length_push ps pair)
 
 module _ {S : Type 0} {g : Ghosts S} (sheet : Sheet S g) (i : ℕ) (low : i < sheet.order) (ps : List (Bor ℕ × Bor S)) (s t u : Zip (Iter ℕ) (Iter S)) (r : Option (Bor ℕ × Bor S)) (columns : iter_rest (zip_first s) ≡ part sheet.words.now (get_or sheet.words.now i 0) (get_or sheet.words.now (i + 1) 0)) (figures : iter_rest (zip_second s) ≡ part sheet.figures.now (get_or sheet.words.now i 0) (get_or sheet.words.now (i + 1) 0)) (yielded : Yields (zips fronts fronts) s ps t) (step : zips fronts fronts t r u) where
   pub cells_turn : (pair : Bor ℕ × Bor S) → r ≡ Some pair → Turn g.figures sheet.order sheet.words.now sheet.figures.now i (length ps) pair

@@ -1,18 +1,16 @@
--- The columns that a row stores.
-use Rattle.std.proofs.Common.{◌≡◌, ℕ, zero, suc, ◌+◌, ◌<◌, ◌≤◌, Bool, true, false, cond, not, ◌&&◌, eqb, [], ◌∷◌, ◌++◌, length, get_or, refl, ap, ◌∙◌, ⊎_elim, add-one, arith}
+-- The columns that a row stores, and where the rows start.
+use Rattle.std.proofs.Common.{◌≡◌, ℕ, zero, suc, ◌+◌, ◌<◌, ◌≤◌, true, false, cond, not, eqb, [], ◌∷◌, ◌++◌, length, get_or, refl, ap, ◌∙◌, ◌⊎◌, inl, inr, ⊎_elim, add-one, arith}
 use Rattle.std.proofs.lemmas.List.{append-nil, length-append, length_push, get_or_append_left, get_or_push}
+use Rattle.std.proofs.Math.Bool.{and-false}
 use Rattle.std.proofs.lemmas.Bool.{cases_lt, cases_Bool}
 use Rattle.arithmetic.specs.Semiring.{Semiring}
-use Rattle.sheet.specs.Packed.{stored, columns_below}
-
-and_no : (b : Bool) → (b && false) ≡ false
-and_no true = refl
-and_no false = refl
+use Rattle.matrix.specs.Tables.{Table}
+use Rattle.sheet.specs.Packed.{stored, columns_below, row_start}
 
 module _ {F : Type 0} (s : Semiring F) (r : ℕ) (v : ℕ → F) where
   -- a cell that is zero is not stored
   pub zero_not_stored : (c : ℕ) → v c ≡ s.zero → stored s r v c ≡ false
-  zero_not_stored c e = rw ((s.tests_zero (v c)).1 e) (and_no (not (eqb c r)))
+  zero_not_stored c e = rw ((s.tests_zero (v c)).1 e) (and-false (not (eqb c r)))
 
   columns_more : (c : ℕ) → columns_below s r v (c + 1) ≡ columns_below s r v c ++ cond (stored s r v c) (c ∷ []) []
   columns_more c = rw add-one refl
@@ -47,18 +45,32 @@ module _ {F : Type 0} (s : Semiring F) (r : ℕ) (v : ℕ → F) where
       rw (same, at_n) (get_or_push (columns_below s r v n) n d _ refl))
       (cases_lt c n)
 
-  -- each column lies below the bound
-  pub columns_below_n : (n k : ℕ) → k < length (columns_below s r v n) → get_or (columns_below s r v n) k 0 < n
-  columns_below_n zero k h = absurd (omega arith)
-  columns_below_n (suc n) k h = ⊎_elim
-      (λ (low : k < length (columns_below s r v n)). rw (get_or_append_left (columns_below s r v n) (cond (stored s r v n) (n ∷ []) []) 0 k low) (let b = columns_below_n n k low in omega arith))
+  -- a place in one more column's list is a place in the list before, or its last, where that column stands
+  pub last_place : (n k : ℕ) → k < length (columns_below s r v (suc n)) → (k < length (columns_below s r v n)) ⊎ ((length (columns_below s r v n) ≡ k) × (stored s r v n ≡ true))
+  last_place n k h = ⊎_elim
+      inl
       (λ (high : length (columns_below s r v n) ≤ k). ⊎_elim
       (λ (e : stored s r v n ≡ true).
       let long : k < length (columns_below s r v n ++ n ∷ []) = rw e at h in
-      let at_end : length (columns_below s r v n) ≡ k = omega (arith, length_push (columns_below s r v n) n) in
-      rw (e, get_or_push (columns_below s r v n) n 0 k at_end) (omega arith))
+      inr (omega (arith, length_push (columns_below s r v n) n), e))
       (λ (e : stored s r v n ≡ false).
       let long : k < length (columns_below s r v n ++ []) = rw e at h in
       absurd (omega (arith, ap length (append-nil (columns_below s r v n)))))
       (cases_Bool (stored s r v n)))
       (cases_lt k (length (columns_below s r v n)))
+
+  -- each column lies below the bound
+  pub columns_below_n : (n k : ℕ) → k < length (columns_below s r v n) → get_or (columns_below s r v n) k 0 < n
+  columns_below_n zero k h = absurd (omega arith)
+  columns_below_n (suc n) k h = ⊎_elim
+      (λ (low : k < length (columns_below s r v n)). rw (get_or_append_left (columns_below s r v n) (cond (stored s r v n) (n ∷ []) []) 0 k low) (let b = columns_below_n n k low in omega arith))
+      (λ (last : (length (columns_below s r v n) ≡ k) × (stored s r v n ≡ true)). rw (last.1, get_or_push (columns_below s r v n) n 0 k last.0) (omega arith))
+      (last_place n k h)
+
+-- the starts grow with the rows
+pub starts_grow : {F : Type 0} (s : Semiring F) (n : ℕ) (t : Table F) (r m : ℕ) → r ≤ m → row_start s n t r ≤ row_start s n t m
+starts_grow s n t r zero low = let e : r ≡ 0 = omega arith in rw e (omega arith)
+starts_grow s n t r (suc m) low = ⊎_elim
+    (λ (h : r < suc m). let before = starts_grow s n t r m (omega arith) in omega arith)
+    (λ (h : suc m ≤ r). let e : r ≡ suc m = omega arith in rw e (omega arith))
+    (cases_lt r (suc m))

@@ -1,34 +1,23 @@
 -- A sheet that is written cell by cell, in the order of rows and columns.
-use Rattle.std.proofs.Common.{◌≡◌, ℕ, zero, suc, ◌+◌, ◌<◌, ◌≤◌, true, false, cond, not, ltb, ◌⊎◌, List, [], ◌∷◌, ◌++◌, map, length, set, sym, refl, ap, ◌∙◌, subst, ap₂, ⊎_elim, append_assoc, add-one, arith}
+use Rattle.std.proofs.Common.{◌≡◌, ℕ, zero, suc, ◌+◌, ◌<◌, ◌≤◌, Bool, true, false, cond, not, ltb, ◌⊎◌, List, [], ◌∷◌, ◌++◌, map, length, set, sym, refl, ap, ◌∙◌, subst, ap₂, ⊎_elim, append_assoc, add-one, arith}
 use Rattle.std.specs.List.{range_with_len}
 use Rattle.std.proofs.lemmas.List.{append-nil, length-append, length-map, length_push, map-append, map_push}
 use Rattle.std.proofs.lemmas.List.FromFn.{length-map-range_with_len, map-range_with_len_more}
-use Rattle.std.proofs.lemmas.Bool.{cases_lt, cases_eq, cases_Bool, lt-ltb, le-ltb, eq-eqb, ne_eqb, and_parts, cond_below, cond_above}
+use Rattle.std.proofs.lemmas.Bool.{iff_false, false≢true, cases_lt, cases_eq, cases_Bool, lt-ltb, le-ltb, eq-eqb, ne_eqb, and_parts, cond_below, cond_above}
 use Rattle.arithmetic.specs.Semiring.{Semiring, Figures, meanings}
 use Rattle.matrix.specs.Tables.{Table}
 use Rattle.matrix.proofs.Meant.{length-meanings}
 use Rattle.sheet.specs.Packed.{joined_over, stored, columns_below, row_columns, row_start, packed_length}
 use Rattle.sheet.specs.Writing.{overlaid, Written, RowStarted, EntryWritten}
-use Rattle.sheet.proofs.Columns.{zero_not_stored, columns_yes, columns_no, columns_room, columns_grow}
+use Rattle.sheet.proofs.Columns.{zero_not_stored, columns_yes, columns_no, columns_room, columns_grow, starts_grow}
 use Rattle.sheet.proofs.Packs.{row_start_is, figures_long}
 use Rattle.sheet.proofs.Halves.{half, half_none, half_mark, half_again, half_push, half_all}
-
-false_not_true : false ≡ true → ⊥
-false_not_true e = let z : ◌≡◌ {A = ℕ} 0 1 = cc in omega arith
 
 ltb_apart : (r c : ℕ) → (c ≡ r → ⊥) → ltb r c ≡ ltb r (c + 1)
 ltb_apart r c ne = ⊎_elim
     (λ (h : r < c). lt-ltb r c h ∙ sym (lt-ltb r (c + 1) (omega arith)))
     (λ (h : c ≤ r). le-ltb r c h ∙ sym (le-ltb r (c + 1) (omega (arith, ne))))
     (cases_lt r c)
-
--- the starts grow with the rows
-pub starts_grow : {F : Type 0} (s : Semiring F) (n : ℕ) (t : Table F) (r m : ℕ) → r ≤ m → row_start s n t r ≤ row_start s n t m
-starts_grow s n t r zero low = let e : r ≡ 0 = omega arith in rw e (omega arith)
-starts_grow s n t r (suc m) low = ⊎_elim
-    (λ (h : r < suc m). let before = starts_grow s n t r m (omega arith) in omega arith)
-    (λ (h : suc m ≤ r). let e : r ≡ suc m = omega arith in rw e (omega arith))
-    (cases_lt r (suc m))
 
 module _ {F : Type 0} (s : Semiring F) (n : ℕ) (t : Table F) where
   -- the columns of the stored cells before (r, c), and their figures
@@ -51,6 +40,11 @@ module _ {F : Type 0} (s : Semiring F) (n : ℕ) (t : Table F) where
   -- the cells of a row end where the next row starts
   pub spot_row : (r : ℕ) → spot (suc r) 0 ≡ spot r n
   spot_row r = omega arith
+
+  -- past a cell, the place is one further if the cell is stored
+  pub spot_more : (r c : ℕ) (b : Bool) → stored s r (t r) c ≡ b → spot r c + cond b 1 0 ≡ spot r (c + 1)
+  spot_more r c true e = rw (columns_yes s r (t r) c e) (simp length_push (omega arith))
+  spot_more r c false e = rw (columns_no s r (t r) c e) (omega arith)
 
   pub spot_within : (r c : ℕ) → r < n → c ≤ n → spot r c ≤ packed_length s n t
   spot_within r c low le =
@@ -116,7 +110,7 @@ module _ {S : Type 0} (a : Figures S) (n : ℕ) (t : Table a.F) (ws : List ℕ) 
         let here' : at ≡ (n + 1) + length l.cells = omega (arith, l.at_is, cells_long) in
         let short : length (map (row_start s n t) (range_with_len 0 (suc r))) ≤ n + 1 = rw (length-map-range_with_len (row_start s n t) 0 (suc r)) (omega arith) in
         let short' : length (l.diagonal ++ l.corner ∷ []) ≤ n + 1 = rw (length_push l.diagonal l.corner) (omega (arith, diagonal_long)) in
-        let apart : c ≡ r → ⊥ = λ e. false_not_true (sym (ap not (eq-eqb c r e)) ∙ (and_parts _ _ kept).0) in
+        let apart : c ≡ r → ⊥ = λ e. false≢true (sym (ap not (eq-eqb c r e)) ∙ (and_parts _ _ kept).0) in
         record {
           at_is = rw next (simp length_push (omega (arith, l.at_is)));
           words_are = rw next (we ∙ (ap₂ (λ d i. set d i c) l.words_are here ∙ (half_push ws n (map (row_start s n t) (range_with_len 0 (suc r))) (before s n t r c) c short (omega arith) ∙ ap (half ws n (map (row_start s n t) (range_with_len 0 (suc r)))) (append_assoc (joined_over (row_columns s n t) r) cols (c ∷ [])))));
@@ -183,7 +177,7 @@ module _ {S : Type 0} (a : Figures S) (n : ℕ) (t : Table a.F) (ws : List ℕ) 
         let p = w.nothing off none in
         settled p.0 p.1 p.2 (laying_pass (sym is ∙ none)))
         (λ (z : a.ring.is_zero (a.meaning f) ≡ false).
-        let p = w.cell off (λ e. false_not_true (sym z ∙ (a.ring.tests_zero (a.meaning f)).1 e)) in
+        let p = w.cell off (iff_false (a.ring.tests_zero (a.meaning f)) z) in
         laying_cell low' (rw (ne_eqb c r off, sym is, z) refl) f is ws'' fs'' at' p.0 p.1 p.2)
         (cases_Bool (a.ring.is_zero (a.meaning f))))
         (cases_eq c r)

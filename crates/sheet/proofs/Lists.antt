@@ -1,6 +1,6 @@
 -- Lists of entries in order, and the tables that they stand for.
 use Rattle.std.proofs.Common.{◌≡◌, ℕ, zero, suc, ◌+◌, ◌-◌, ◌*◌, ◌<◌, ◌≤◌, Bool, true, false, cond, not, ◌&&◌, eqb, ◌⊎◌, List, [], ◌∷◌, ◌++◌, length, get_or, sym, refl, ap, ◌∙◌, subst, inl, inr, ⊎_elim, add-one, arith}
-use Rattle.std.proofs.lemmas.List.{length-append, length_push}
+use Rattle.std.proofs.lemmas.List.{length-append}
 use Rattle.std.proofs.lemmas.Bool.{cases_lt, cases_eq, eq-eqb, ne_eqb}
 use Rattle.arithmetic.specs.Semiring.{Semiring, Figures, meanings}
 use Rattle.matrix.specs.Tables.{Table}
@@ -8,8 +8,8 @@ use Rattle.matrix.proofs.Sums.{add-zero}
 use Rattle.matrix.proofs.Meant.{read_means}
 use Rattle.sheet.specs.Packed.{stored, columns_below, row_start, packed_length}
 use Rattle.sheet.specs.Loading.{entries, loaded, Placed}
-use Rattle.sheet.proofs.Columns.{zero_not_stored, columns_yes, columns_no}
-use Rattle.sheet.proofs.Laying.{spot, spot_row}
+use Rattle.sheet.proofs.Columns.{zero_not_stored, columns_no}
+use Rattle.sheet.proofs.Laying.{spot, spot_row, spot_more}
 
 -- cell (r, c) comes before cell (i, j)
 abbrev pub Before : ℕ → ℕ → ℕ → ℕ → Type 0
@@ -33,18 +33,20 @@ module _ (n : ℕ) (rows columns : List ℕ) (placed : (k : ℕ) → k < length 
       (λ (h : j ≤ i). let same : i ≡ j = omega arith in rw same step)
       (cases_lt i j)
 
+-- x is r and y is c: the test for both says no where they are not both so
+not_both : (x y r c : ℕ) → (x ≡ r → y ≡ c → ⊥) → (eqb x r && eqb y c) ≡ false
+not_both x y r c none = ⊎_elim
+    (λ (e : x ≡ r). rw (eq-eqb x r e, ne_eqb y c (none e)) refl)
+    (λ (ne : x ≡ r → ⊥). rw (ne_eqb x r ne) refl)
+    (cases_eq x r)
+
 module _ {S : Type 0} (a : Figures S) where
   -- a cell that no entry names is zero
   pub loaded_none : (rs cs : List ℕ) (fs : List S) (r c : ℕ) → ((e : ℕ) → e < length rs → get_or rs e 0 ≡ r → get_or cs e 0 ≡ c → ⊥) → loaded a.ring (entries a rs cs fs) r c ≡ a.ring.zero
   loaded_none [] cs fs r c none = refl
   loaded_none (x ∷ rs) [] fs r c none = refl
   loaded_none (x ∷ rs) (y ∷ cs) [] r c none = refl
-  loaded_none (x ∷ rs) (y ∷ cs) (f ∷ fs) r c none = rw (apart (cases_eq x r) (cases_eq y c)) (loaded_none rs cs fs r c (λ e low. none (suc e) (omega arith)))
-    where
-      apart : (x ≡ r) ⊎ (x ≡ r → ⊥) → (y ≡ c) ⊎ (y ≡ c → ⊥) → (eqb x r && eqb y c) ≡ false
-      apart (inl e) (inl d) = absurd (none 0 (omega arith) e d)
-      apart (inl e) (inr d) = rw (eq-eqb x r e, ne_eqb y c d) refl
-      apart (inr e) d = rw (ne_eqb x r e) refl
+  loaded_none (x ∷ rs) (y ∷ cs) (f ∷ fs) r c none = rw (not_both x y r c (none 0 (omega arith))) (loaded_none rs cs fs r c (λ e low. none (suc e) (omega arith)))
 
   -- a cell that one entry names has its figure
   pub loaded_one : (rs cs : List ℕ) (fs : List S) (r c k : ℕ) (d : a.F) → length cs ≡ length rs → length fs ≡ length rs → k < length rs → get_or rs k 0 ≡ r → get_or cs k 0 ≡ c → ((e : ℕ) → e < length rs → get_or rs e 0 ≡ r → get_or cs e 0 ≡ c → e ≡ k) → loaded a.ring (entries a rs cs fs) r c ≡ get_or (meanings a fs) k d
@@ -54,12 +56,7 @@ module _ {S : Type 0} (a : Figures S) where
   loaded_one (x ∷ rs) (y ∷ cs) (f ∷ fs) r c zero d lc lf low at-r at_c only =
       rw (eq-eqb x r at-r, eq-eqb y c at_c) (ap (a.ring.add (a.meaning f)) (loaded_none rs cs fs r c (λ e h hr hc. let z : suc e ≡ 0 = only (suc e) (omega arith) hr hc in absurd (omega arith))) ∙ add-zero a.ring (a.meaning f))
   loaded_one (x ∷ rs) (y ∷ cs) (f ∷ fs) r c (suc k) d lc lf low at-r at_c only =
-      rw (apart (cases_eq x r) (cases_eq y c)) (loaded_one rs cs fs r c k d (omega arith) (omega arith) (omega arith) at-r at_c (λ e h hr hc. let z : suc e ≡ suc k = only (suc e) (omega arith) hr hc in omega arith))
-    where
-      apart : (x ≡ r) ⊎ (x ≡ r → ⊥) → (y ≡ c) ⊎ (y ≡ c → ⊥) → (eqb x r && eqb y c) ≡ false
-      apart (inl e) (inl d) = let z : 0 ≡ suc k = only 0 (omega arith) e d in absurd (omega arith)
-      apart (inl e) (inr d) = rw (eq-eqb x r e, ne_eqb y c d) refl
-      apart (inr e) d = rw (ne_eqb x r e) refl
+      rw (not_both x y r c (λ e d. let z : 0 ≡ suc k = only 0 (omega arith) e d in omega arith)) (loaded_one rs cs fs r c k d (omega arith) (omega arith) (omega arith) at-r at_c (λ e h hr hc. let z : suc e ≡ suc k = only (suc e) (omega arith) hr hc in omega arith))
 
 -- cell (r, c) is cell (i, j) or comes before it
 abbrev pub AtLeast : ℕ → ℕ → ℕ → ℕ → Type 0
@@ -184,9 +181,6 @@ pub record Counted {S : Type 0} (a : Figures S) (n : ℕ) (rows columns : List �
   pub count_is : count ≡ spot a.ring n (listed a rows columns figs) row column
 
 module _ {S : Type 0} (a : Figures S) (n : ℕ) (rows columns : List ℕ) (figs : List S) (even : length columns ≡ length rows) (even' : length figs ≡ length rows) (placed : (k : ℕ) → k < length rows → Placed n rows columns k) where
-  pub counted_none : 1 ≤ n → Counted a n rows columns figs 0 (n + 1)
-  counted_none some = record { row = 0; column = 0; row_within = omega arith; column_within = omega arith; frontier = frontier_none a n rows columns figs even even' placed; count_is = omega arith }
-
   -- the count stays small
   pub counted_small : n ≤ 1024 → (k count : ℕ) → Counted a n rows columns figs k count → count < 2000000
   counted_small small k count m =
@@ -208,12 +202,8 @@ module _ {S : Type 0} (a : Figures S) (n : ℕ) (rows columns : List ℕ) (figs 
         row_within = omega arith;
         column_within = omega arith;
         frontier = frontier_more a n rows columns figs even even' placed k low m.row m.column m.frontier;
-        count_is = ap (λ x. x + cond b 1 0) (m.count_is ∙ spot_quiet a.ring n (listed a rows columns figs) m.row m.column (get_or rows k 0) (get_or columns k 0) (m.frontier.ahead k (omega arith) low) m.column_within (λ x y from to in_row. gap_before a n rows columns figs even even' placed k low m.row m.column m.frontier x y from to) (omega arith)) ∙ step b is;
+        count_is = ap (λ x. x + cond b 1 0) (m.count_is ∙ spot_quiet a.ring n (listed a rows columns figs) m.row m.column (get_or rows k 0) (get_or columns k 0) (m.frontier.ahead k (omega arith) low) m.column_within (λ x y from to in_row. gap_before a n rows columns figs even even' placed k low m.row m.column m.frontier x y from to) (omega arith)) ∙ spot_more a.ring n (listed a rows columns figs) (get_or rows k 0) (get_or columns k 0) b is;
       }
-    where
-      step : (b : Bool) → stored a.ring (get_or rows k 0) (listed a rows columns figs (get_or rows k 0)) (get_or columns k 0) ≡ b → spot a.ring n (listed a rows columns figs) (get_or rows k 0) (get_or columns k 0) + cond b 1 0 ≡ spot a.ring n (listed a rows columns figs) (get_or rows k 0) (get_or columns k 0 + 1)
-      step true e = rw (columns_yes a.ring (get_or rows k 0) (listed a rows columns figs (get_or rows k 0)) (get_or columns k 0) e) (simp length_push (omega arith))
-      step false e = rw (columns_no a.ring (get_or rows k 0) (listed a rows columns figs (get_or rows k 0)) (get_or columns k 0) e) (omega arith)
 
   pub counted_all : (k : ℕ) → length rows ≤ k → (count : ℕ) → Counted a n rows columns figs k count → count ≡ packed_length a.ring n (listed a rows columns figs)
   counted_all k all count m =

@@ -1,5 +1,5 @@
 -- The rows of a sheet, by their starts.
-use Rattle.std.proofs.Common.{◌≡◌, ℕ, zero, suc, ◌+◌, ◌-◌, ◌<◌, ◌≤◌, List, length, get_or, refl, ⊎_elim, arith}
+use Rattle.std.proofs.Common.{◌≡◌, ℕ, zero, suc, ◌+◌, ◌-◌, ◌<◌, ◌≤◌, List, length, get_or, ⊎_elim, arith}
 use Rattle.std.proofs.lemmas.Bool.{cases_lt, cases_order}
 use Rattle.arithmetic.specs.Semiring.{Semiring}
 use Rattle.sheet.specs.Packed.{Rule, Rising}
@@ -35,17 +35,6 @@ pub record Walk {F : Type 0} (s : Semiring F) (n : ℕ) (ws : List ℕ) (fs : Li
   pub row : r ≤ n
   pub from : get_or ws r 0 ≤ p
   pub keep : (j : ℕ) → j < p → Rule s n ws fs j
-
--- short of the end, the row is one of the rows
-pub inside : {F : Type 0} {s : Semiring F} {n : ℕ} {ws : List ℕ} {fs : List F} {p r : ℕ} → Walk s n ws fs p r → p < length ws → r < n
-inside {n = n} {ws = ws} {p = p} {r = r} w short = ⊎_elim
-    (λ (h : r < n). h)
-    (λ (h : n ≤ r).
-    let e : r ≡ n = omega arith in
-    let end = ((w.keep n w.past).head (omega arith)).last refl in
-    let at_end : get_or ws n 0 ≤ p = rw e at w.from in
-    absurd (omega arith))
-    (cases_lt r n)
 
 pub walk_rises : {F : Type 0} {s : Semiring F} {n : ℕ} {ws : List ℕ} {fs : List F} {p r : ℕ} → Walk s n ws fs p r → Rising n ws
 walk_rises {s = s} {n = n} {ws = ws} {fs = fs} w = heads_rise s n ws fs (λ j h. let past = w.past in w.keep j (omega arith))

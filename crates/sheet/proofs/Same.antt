@@ -41,9 +41,6 @@ module _ {F : Type 0} (s : Semiring F) where
         (map_counting_same (row_start s n t) (row_start s n u) (n + 1) (λ r h. starts_same r (omega arith)))
         (joined_same (row_columns s n t) (row_columns s n u) n rows_same)
 
-    pub packed_length_same : packed_length s n t ≡ packed_length s n u
-    packed_length_same = starts_same n (omega arith)
-
     pub packed_figures_same : packed_figures s n t ≡ packed_figures s n u
     packed_figures_same = ap₂ (λ d c. d ++ (s.zero ∷ c))
         (map_counting_same (λ r. t r r) (λ r. u r r) n (λ r h. same r r h h))

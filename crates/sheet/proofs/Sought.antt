@@ -1,11 +1,11 @@
 -- A column that is sought among those of a row, which rise.
-use Rattle.std.proofs.Common.{◌≡◌, ℕ, ◌+◌, ◌-◌, ◌<◌, ◌≤◌, List, length, get_or, drop, ap, ◌∙◌, sym, ⊎_elim, arith}
-use Rattle.std.proofs.lemmas.List.{get_or-take, get_or-drop, length-take, length-drop}
+use Rattle.std.proofs.Common.{◌≡◌, ℕ, ◌+◌, ◌-◌, ◌<◌, ◌≤◌, List, length, get_or, ap, ◌∙◌, sym, ⊎_elim, arith}
 use Rattle.std.proofs.lemmas.Bool.{cases_lt}
 use Rattle.arithmetic.specs.Semiring.{Semiring}
 use Rattle.sheet.specs.Packed.{Sound, table}
 use Rattle.sheet.specs.Writing.{part}
 use Rattle.sheet.proofs.Unique.{found_first}
+use Rattle.sheet.proofs.Cells.{part_at, part_long}
 use Rattle.sheet.proofs.Found.{row_within, columns_rise, not_found, table_off}
 
 module _ {F : Type 0} (s : Semiring F) (n : ℕ) (ws : List ℕ) (fs : List F) (sound : Sound s n ws fs) (i c : ℕ) (low : i < n) (off : c ≡ i → ⊥) where
@@ -13,10 +13,10 @@ module _ {F : Type 0} (s : Semiring F) (n : ℕ) (ws : List ℕ) (fs : List F) (
   row_end = row_within s n ws fs sound (i + 1) (omega arith)
 
   long : length (part ws (get_or ws i 0) (get_or ws (i + 1) 0)) ≡ get_or ws (i + 1) 0 - get_or ws i 0
-  long = let e = row_end in simp (length-take, length-drop) (omega arith)
+  long = part_long ws (get_or ws i 0) (get_or ws (i + 1) 0) row_end
 
   at : (k : ℕ) → k < get_or ws (i + 1) 0 - get_or ws i 0 → get_or (part ws (get_or ws i 0) (get_or ws (i + 1) 0)) k 0 ≡ get_or ws (get_or ws i 0 + k) 0
-  at k h = get_or-take (get_or ws (i + 1) 0 - get_or ws i 0) (drop (get_or ws i 0) ws) k 0 h ∙ get_or-drop (get_or ws i 0) ws k 0
+  at k h = part_at ws (get_or ws i 0) (get_or ws (i + 1) 0) k 0 h
 
   -- the columns of the row rise
   pub part_rises : (j k : ℕ) → j ≤ k → k < length (part ws (get_or ws i 0) (get_or ws (i + 1) 0)) → get_or (part ws (get_or ws i 0) (get_or ws (i + 1) 0)) j 0 ≤ get_or (part ws (get_or ws i 0) (get_or ws (i + 1) 0)) k 0

@@ -1,16 +1,17 @@
 -- A sound sheet is the packed form of its table: a table has one packed form.
 use Rattle.std.proofs.Common.{◌≡◌, ℕ, zero, suc, ◌+◌, ◌-◌, ◌<◌, ◌≤◌, true, false, List, [], ◌∷◌, ◌++◌, length, get_or, take, drop, sym, refl, ap, ◌∙◌, subst, ap₂, ⊎_elim, add-one, arith}
-use Rattle.std.proofs.lemmas.List.{ext_get_or, length-take-le, length-drop, take_more, get_or-take, get_or-drop}
+use Rattle.std.proofs.lemmas.List.{ext_get_or, length-take-le, length-drop, take_more, get_or-drop}
 use Rattle.std.proofs.lemmas.Bool.{cases_lt, cases_eq, cases_Bool, eq-eqb, ne_eqb, and_from, and_left, and_right, not_from_true, not_from_false}
 use Rattle.arithmetic.specs.Semiring.{Semiring}
 use Rattle.matrix.specs.Tables.{Table, Same}
-use Rattle.sheet.specs.Packed.{stored, columns_below, row_columns, row_start, packed_length, packed_index, packed_figures, Sound, Cell, found, table}
+use Rattle.sheet.specs.Packed.{stored, columns_below, row_columns, row_start, packed_length, packed_index, packed_figures, Sound, found, table}
 use Rattle.sheet.specs.Forms.{PackedFormExists, PackedFormIsUnique, SoundSheetIsPacked}
 use Rattle.sheet.proofs.Columns.{columns_yes, columns_no}
+use Rattle.sheet.proofs.Cells.{part_at}
 use Rattle.sheet.proofs.Found.{sound_rises, row_past, row_within, cell_at, columns_rise, not_found, table_here, table_off}
 use Rattle.sheet.proofs.Packs.{start_at, diagonal_at, column_of, figure_of, table_packed}
 use Rattle.sheet.proofs.Same.{packed_index_same, packed_figures_same, index_long, figures_long_too}
-use Rattle.sheet.proofs.Sounds.{packed_sound}
+use Rattle.sheet.proofs.Sounds.{row_of, packed_sound}
 
 -- the first position that holds column c gives its figure
 pub found_first : {F : Type 0} (s : Semiring F) (ws : List ℕ) (fs : List F) (c p k q : ℕ) → p ≤ q → q < p + k → get_or ws q 0 ≡ c → ((j : ℕ) → p ≤ j → j < q → get_or ws j 0 ≡ c → ⊥) → found s ws fs c p k ≡ get_or fs q s.zero
@@ -144,7 +145,7 @@ module _ {F : Type 0} (s : Semiring F) (n : ℕ) (ws : List ℕ) (fs : List F) (
     pub row_column : (q : ℕ) → q < get_or ws (r + 1) 0 - get_or ws r 0 → get_or (row_columns s n (table s ws fs) r) q 0 ≡ get_or ws (get_or ws r 0 + q) 0
     row_column q short =
         ap (λ l. get_or l q 0) row_is
-        ∙ (get_or-take (get_or ws (r + 1) 0 - get_or ws r 0) (drop (get_or ws r 0) ws) q 0 short ∙ get_or-drop (get_or ws r 0) ws q 0)
+        ∙ part_at ws (get_or ws r 0) (get_or ws (r + 1) 0) q 0 short
 
   -- the starts of the rows are those of the table
   pub start_is : (r : ℕ) → r ≤ n → row_start s n (table s ws fs) r ≡ get_or ws r 0
@@ -159,21 +160,25 @@ module _ {F : Type 0} (s : Semiring F) (n : ℕ) (ws : List ℕ) (fs : List F) (
   pub length_is : packed_length s n (table s ws fs) ≡ length ws
   length_is = start_is n (omega arith) ∙ ((sound.rules n sound.room).head (omega arith)).last refl
 
+  -- the word and the figure q places past the start of row r
+  module _ (r q : ℕ) (low : r < n) (short : q < length (row_columns s n (table s ws fs) r)) where
+    word_in_row : get_or ws (row_start s n (table s ws fs) r + q) 0 ≡ get_or (packed_index s n (table s ws fs)) (row_start s n (table s ws fs) r + q) 0
+    word_in_row =
+        ap (λ k. get_or ws (k + q) 0) (start_is r (omega arith))
+        ∙ sym (column_of s n (table s ws fs) r q low short ∙ row_column r low q (omega (arith, row_long r low)))
+
+    figure_in_row : get_or fs (row_start s n (table s ws fs) r + q) s.zero ≡ get_or (packed_figures s n (table s ws fs)) (row_start s n (table s ws fs) r + q) s.zero
+    figure_in_row =
+        let within : q < get_or ws (r + 1) 0 - get_or ws r 0 = omega (arith, row_long r low) in
+        ap (λ k. get_or fs (k + q) s.zero) (start_is r (omega arith))
+        ∙ sym (figure_of s n (table s ws fs) r q low short ∙ (ap (table s ws fs r) (row_column r low q within) ∙ cell_figure r low (get_or ws r 0 + q) (omega arith) (omega arith)))
+
   -- word by word: the head holds the starts, and a position past it lies in a row, so many places from its start
   pub index_is : ws ≡ packed_index s n (table s ws fs)
   index_is = ext_get_or 0 _ _ (sym (index_long s n (table s ws fs) ∙ length_is)) (λ p within. ⊎_elim
       (λ (past : n < p).
-      let k : Cell s n ws fs p = (sound.rules p within).cell past in
-      let low : k.row < n = k.row_below in
-      let from : get_or ws k.row 0 ≤ p = k.from in
-      let to : p < get_or ws (k.row + 1) 0 = k.to in
-      let start = start_is k.row (omega arith) in
-      let long = row_long k.row low in
-      let at_p : row_start s n (table s ws fs) k.row + (p - get_or ws k.row 0) ≡ p = omega arith in
-      let at_p' : get_or ws k.row 0 + (p - get_or ws k.row 0) ≡ p = omega arith in
-      sym (ap (λ j. get_or (packed_index s n (table s ws fs)) j 0) (sym at_p)
-      ∙ (column_of s n (table s ws fs) k.row (p - get_or ws k.row 0) low (omega arith)
-      ∙ (row_column k.row low (p - get_or ws k.row 0) (omega arith) ∙ ap (λ j. get_or ws j 0) at_p'))))
+      let found = row_of s n (table s ws fs) p n past (omega (arith, length_is)) in
+      subst (λ j. get_or ws j 0 ≡ get_or (packed_index s n (table s ws fs)) j 0) found.is (word_in_row found.row found.place found.row_below found.short))
       (λ (head : p ≤ n). sym (start_at s n (table s ws fs) p head ∙ start_is p head))
       (cases_lt n p))
 
@@ -181,17 +186,8 @@ module _ {F : Type 0} (s : Semiring F) (n : ℕ) (ws : List ℕ) (fs : List F) (
   pub figures_is : length fs ≡ length ws → fs ≡ packed_figures s n (table s ws fs)
   figures_is even = ext_get_or s.zero _ _ (even ∙ sym (figures_long_too s n (table s ws fs) ∙ length_is)) (λ p within. ⊎_elim
       (λ (past : n < p).
-      let k : Cell s n ws fs p = (sound.rules p (omega arith)).cell past in
-      let low : k.row < n = k.row_below in
-      let from : get_or ws k.row 0 ≤ p = k.from in
-      let to : p < get_or ws (k.row + 1) 0 = k.to in
-      let start = start_is k.row (omega arith) in
-      let long = row_long k.row low in
-      let at_p : row_start s n (table s ws fs) k.row + (p - get_or ws k.row 0) ≡ p = omega arith in
-      let at_p' : get_or ws k.row 0 + (p - get_or ws k.row 0) ≡ p = omega arith in
-      sym (ap (λ j. get_or (packed_figures s n (table s ws fs)) j s.zero) (sym at_p)
-      ∙ (figure_of s n (table s ws fs) k.row (p - get_or ws k.row 0) low (omega arith)
-      ∙ (ap (table s ws fs k.row) (row_column k.row low (p - get_or ws k.row 0) (omega arith) ∙ ap (λ j. get_or ws j 0) at_p') ∙ cell_figure k.row low p from to))))
+      let found = row_of s n (table s ws fs) p n past (omega (arith, length_is)) in
+      subst (λ j. get_or fs j s.zero ≡ get_or (packed_figures s n (table s ws fs)) j s.zero) found.is (figure_in_row found.row found.place found.row_below found.short))
       (λ (head : p ≤ n). ⊎_elim
       (λ (diagonal : p < n). sym (diagonal_at s n (table s ws fs) p diagonal ∙ table_here s ws fs p))
       (λ (end : n ≤ p).

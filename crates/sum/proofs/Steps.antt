@@ -1,13 +1,11 @@
 -- A table that is gone through cell by cell: what is counted of it, and what is written.
-use Rattle.std.proofs.Common.{◌≡◌, ℕ, ◌+◌, ◌<◌, ◌≤◌, Bool, true, false, cond, not, ◌&&◌, eqb, ◌⊎◌, List, length, Some, None, sym, refl, ap, ◌∙◌, subst, ap₂, inl, inr, add-one, arith}
-use Rattle.std.proofs.lemmas.List.{length_push}
+use Rattle.std.proofs.Common.{◌≡◌, ℕ, ◌+◌, ◌<◌, ◌≤◌, cond, not, ◌&&◌, eqb, ◌⊎◌, List, length, Some, None, sym, refl, ap, ◌∙◌, subst, ap₂, inl, inr, add-one, arith}
 use Rattle.arithmetic.specs.Semiring.{Figures}
 use Rattle.matrix.specs.Tables.{Table}
 use Rattle.sheet.specs.Packed.{stored, packed_length}
 use Rattle.sheet.specs.Writing.{RowStarted, EntryWritten}
 use Rattle.sheet.specs.declared.sound.RowCell.{RowCell}
-use Rattle.sheet.proofs.Columns.{columns_yes, columns_no}
-use Rattle.sheet.proofs.Laying.{Laying, spot, spot_row, spot_within, laying_entry, laying_room, laying_row, laying_skip}
+use Rattle.sheet.proofs.Laying.{Laying, spot, spot_row, spot_more, spot_within, laying_entry, laying_room, laying_row, laying_skip}
 use Rattle.sheet.proofs.Lists.{spot_quiet}
 use Rattle.sum.specs.Merging.{NextCell}
 
@@ -27,11 +25,7 @@ module _ {S : Type 0} (a : Figures S) (n : ℕ) (t : Table a.F) (row from : ℕ)
   counted_cell cell next count more is told =
       let short = next.1 in
       ap₂ ◌+◌ (is ∙ quiet cell.column next.0 (omega arith) next.2) (told ∙ ap (λ v. cond (not (eqb cell.column row) && not (a.ring.is_zero v)) 1 0) next.3)
-      ∙ (step (stored a.ring row (t row) cell.column) refl ∙ ap (spot a.ring n t row) (sym next.5))
-    where
-      step : (b : Bool) → stored a.ring row (t row) cell.column ≡ b → spot a.ring n t row cell.column + cond b 1 0 ≡ spot a.ring n t row (cell.column + 1)
-      step true e = rw (columns_yes a.ring row (t row) cell.column e) (simp length_push (omega arith))
-      step false e = rw (columns_no a.ring row (t row) cell.column e) (omega arith)
+      ∙ (spot_more a.ring n t row cell.column (stored a.ring row (t row) cell.column) refl ∙ ap (spot a.ring n t row) (sym next.5))
 
   -- the row is counted
   pub counted_row : from ≤ n → NextCell a n t row from None row' from' → spot a.ring n t row from ≡ spot a.ring n t (row + 1) 0

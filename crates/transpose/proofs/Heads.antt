@@ -7,7 +7,7 @@ use Rattle.matrix.proofs.Meant.{length-meanings, meanings_set}
 use Rattle.sheet.specs.Packed.{row_columns, row_start}
 use Rattle.sheet.specs.Writing.{RowStarted}
 use Rattle.sheet.proofs.Found.{table_here}
-use Rattle.sheet.proofs.Laying.{starts_grow}
+use Rattle.sheet.proofs.Columns.{starts_grow}
 use Rattle.transpose.specs.Flipping.{HeadLaid}
 use Rattle.transpose.proofs.Flips.{flipped_table, Flip, long}
 

@@ -1,11 +1,12 @@
 -- How often a column stands among the places of a sheet.
 use Rattle.std.proofs.Common.{◌≡◌, ℕ, zero, suc, ◌+◌, ◌-◌, ◌<◌, ◌≤◌, Bool, true, false, cond, not, ◌&&◌, eqb, ◌⊎◌, List, length, get_or, take, drop, set, sym, refl, ap, ◌∙◌, subst, ap₂, inl, inr, ⊎_elim, add-one, arith}
-use Rattle.std.proofs.lemmas.List.{get_or-set_same, get_or-set_other, get_or-take, get_or-drop, length_push}
+use Rattle.std.proofs.lemmas.List.{get_or-set_same, get_or-set_other, length_push}
 use Rattle.std.proofs.lemmas.Bool.{cases_lt, cases_eq, cases_Bool, eq-eqb, ne_eqb}
 use Rattle.arithmetic.specs.Semiring.{Semiring}
 use Rattle.matrix.specs.Tables.{flipped}
 use Rattle.sheet.specs.Packed.{Sound, stored, columns_below, row_columns, row_start, packed_length, table}
 use Rattle.sheet.proofs.Found.{sound_rises, row_past, columns_rise}
+use Rattle.sheet.proofs.Cells.{part_at}
 use Rattle.sheet.proofs.Columns.{columns_yes, columns_no}
 use Rattle.sheet.proofs.Unique.{cell_stored, none_stored}
 use Rattle.transpose.specs.Flipping.{hits}
@@ -32,10 +33,6 @@ hits_none ws c q k (suc m) le none = ⊎_elim
     (λ (h : k < suc m). rw (ne_eqb (get_or ws (q + m) 0) c (none (q + m) (omega arith) (omega arith))) (omega (arith, hits_none ws c q k m (omega arith) (λ i from to. none i from (omega arith)))))
     (λ (h : suc m ≤ k). let e : k ≡ suc m = omega arith in rw e refl)
     (cases_lt k (suc m))
-
--- the word that stands k places past place q
-pub word_past : (ws : List ℕ) (q k : ℕ) → k < length ws - q → get_or (take (length ws - q) (drop q ws)) k 0 ≡ get_or ws (q + k) 0
-word_past ws q k low = get_or-take (length ws - q) (drop q ws) k 0 low ∙ get_or-drop q ws k 0
 
 -- the count of a column that was met
 pub counted_more : (ws : List ℕ) (q m w : ℕ) → w ≡ get_or ws (q + m) 0 → w < 1024 → (counts : List ℕ) → length counts ≡ 1024 → ((c : ℕ) → c < 1024 → get_or counts c 0 ≡ hits ws c q m) → (c : ℕ) → c < 1024 → get_or (set counts w (get_or counts w 0 + 1)) c 0 ≡ hits ws c q (m + 1)
@@ -66,7 +63,7 @@ eqb_swap i c = ⊎_elim (λ (e : i ≡ c). eq-eqb i c e ∙ sym (eq-eqb c i (sym
 
 -- a column of a sheet
 pub column_past : {F : Type 0} (s : Semiring F) (n : ℕ) (ws : List ℕ) (fs : List F) → Sound s n ws fs → (k : ℕ) → k < length ws - (n + 1) → get_or (take (length ws - (n + 1)) (drop (n + 1) ws)) k 0 < n
-column_past s n ws fs sound k low = rw (word_past ws (n + 1) k low) ((sound.rules (n + 1 + k) (omega arith)).cell (omega arith)).column_below
+column_past s n ws fs sound k low = rw (part_at ws (n + 1) (length ws) k 0 low) ((sound.rules (n + 1 + k) (omega arith)).cell (omega arith)).column_below
 
 module _ {F : Type 0} (s : Semiring F) (n : ℕ) (ws : List ℕ) (fs : List F) (sound : Sound s n ws fs) where
   -- a cell is stored in a sheet just where the flipped table stores it

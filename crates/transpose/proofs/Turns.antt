@@ -7,8 +7,7 @@ use Rattle.matrix.specs.Tables.{Table}
 use Rattle.matrix.proofs.Meant.{length-meanings, meanings_set}
 use Rattle.sheet.specs.Packed.{stored, columns_below, row_columns, row_start, packed_length, packed_index, packed_figures}
 use Rattle.sheet.specs.Writing.{overlaid, Written}
-use Rattle.sheet.proofs.Columns.{columns_at, columns_room}
-use Rattle.sheet.proofs.Laying.{starts_grow}
+use Rattle.sheet.proofs.Columns.{columns_at, columns_room, starts_grow}
 use Rattle.sheet.proofs.Packs.{start_at, diagonal_at, column_of, figure_of}
 use Rattle.sheet.proofs.Same.{index_long, figures_long_too}
 use Rattle.sheet.proofs.Sounds.{packed_sound, row_of}
@@ -148,14 +147,10 @@ module _ {S : Type 0} (a : Figures S) (n : ℕ) (small : n ≤ 1024) (t : Table 
     word_at x low = ⊎_elim
         (λ (past : n < x).
         let found = row_of a.ring n t x n past low in
-        let r = found.0 in
-        let r_low = found.1 in
-        let from = found.2 in
-        let to = found.3 in
-        let e : row_start a.ring n t r + (x - row_start a.ring n t r) ≡ x = omega arith in
-        let end = full r r_low in
-        subst (λ y. get_or ws' y 0 ≡ get_or (packed_index a.ring n t) y 0) e
-        (done.words r (x - row_start a.ring n t r) r_low (omega arith) ∙ sym (column_of a.ring n t r (x - row_start a.ring n t r) r_low (omega arith))))
+        let short = found.short in
+        let end = full found.row found.row_below in
+        subst (λ y. get_or ws' y 0 ≡ get_or (packed_index a.ring n t) y 0) found.is
+        (done.words found.row found.place found.row_below (omega arith) ∙ sym (column_of a.ring n t found.row found.place found.row_below short)))
         (λ (le : x ≤ n). done.head.starts x le ∙ sym (start_at a.ring n t x le))
         (cases_lt n x)
 
@@ -163,14 +158,10 @@ module _ {S : Type 0} (a : Figures S) (n : ℕ) (small : n ≤ 1024) (t : Table 
     figure_at_place x low = ⊎_elim
         (λ (past : n < x).
         let found = row_of a.ring n t x n past low in
-        let r = found.0 in
-        let r_low = found.1 in
-        let from = found.2 in
-        let to = found.3 in
-        let e : row_start a.ring n t r + (x - row_start a.ring n t r) ≡ x = omega arith in
-        let end = full r r_low in
-        subst (λ y. get_or (meanings a fs') y a.ring.zero ≡ get_or (packed_figures a.ring n t) y a.ring.zero) e
-        (done.figures r (x - row_start a.ring n t r) r_low (omega arith) ∙ sym (figure_of a.ring n t r (x - row_start a.ring n t r) r_low (omega arith))))
+        let short = found.short in
+        let end = full found.row found.row_below in
+        subst (λ y. get_or (meanings a fs') y a.ring.zero ≡ get_or (packed_figures a.ring n t) y a.ring.zero) found.is
+        (done.figures found.row found.place found.row_below (omega arith) ∙ sym (figure_of a.ring n t found.row found.place found.row_below short)))
         (λ (le : x ≤ n). ⊎_elim
         (λ (less : x < n). done.head.diagonal x less ∙ sym (diagonal_at a.ring n t x less))
         (λ (ge : n ≤ x).

@@ -1,7 +1,8 @@
 use Rattle.std.proofs.Common.{◌+◌, ◌-◌, length, get_or, take, drop, refl, ◌∙◌, arith, length-set}
 use Rattle.std.proofs.lemmas.List.{get_or-replicate}
+use Rattle.sheet.proofs.Cells.{part_at}
 use Rattle.sheet.proofs.Known.{sheet_sound}
-use Rattle.transpose.proofs.Hits.{word_past, counted_more, hits_few, column_past}
+use Rattle.transpose.proofs.Hits.{counted_more, hits_few, column_past}
 use Rattle.transpose.proofs.count_columns.Goals as goal
 
 pub loop-column-init : goal.loop-column-init
@@ -35,4 +36,4 @@ loop-column-preserved g c =
     let sheet = c.args.sheet.now in
     let low = column_past a.ring sheet.order sheet.words.now _ (sheet_sound sheet) c.loop-column.column-index (omega arith) in
     let counts = c.loop-column.invariant in
-    (length-set c.loop-column.counts _ _ ∙ counts.0, counted_more sheet.words.now (sheet.order + 1) c.loop-column.column-index _ (word_past sheet.words.now (sheet.order + 1) c.loop-column.column-index (omega arith)) (omega arith) c.loop-column.counts counts.0 counts.1)
+    (length-set c.loop-column.counts _ _ ∙ counts.0, counted_more sheet.words.now (sheet.order + 1) c.loop-column.column-index _ (part_at sheet.words.now (sheet.order + 1) (length sheet.words.now) c.loop-column.column-index 0 (omega arith)) (omega arith) c.loop-column.counts counts.0 counts.1)

@@ -1,11 +1,16 @@
-use Rattle.std.proofs.Common.{◌≡◌, ◌+◌, ◌∷◌, [], ◌++◌, length, get_or, arith, rules}
-use Rattle.std.proofs.lemmas.List.{length_push}
+use Rattle.std.proofs.Common.{◌≡◌, ◌+◌, length, get_or, arith, rules}
 use Rattle.arithmetic.specs.Semiring.{meanings}
 use Rattle.sheet.proofs.Known.{sheet_sound}
-use Rattle.sheet.proofs.Cells.{cells_turn, cells_end}
+use Rattle.sheet.proofs.Cells.{Turn, next_place, cells_turn, cells_end}
 use Rattle.transpose.proofs.Hits.{hits_all}
 use Rattle.transpose.proofs.Walks.{walking_none, walking_cell, walking_done, place_free}
+use Rattle.transpose.proofs.write_flipped.Given.{Over}
+use Rattle.transpose.proofs.write_flipped.Goals.{In-Some}
 use Rattle.transpose.proofs.write_flipped.Goals as goal
+
+-- the column and the figure of the pair that has come
+turn_here : (g : Over) (c : In-Some g) → Turn g.F.Arithmetic.figures c.args.sheet.now.order c.args.sheet.now.words.now c.args.sheet.now.figures.now c.loop-row.row (length c.loop-column.yielded) (c.in-Some.column, c.in-Some.figure)
+turn_here g c = cells_turn c.args.sheet.now c.loop-row.row (omega arith) c.loop-column.yielded c.into_iter-column-iterator.result c.loop-column.column-iterator c.next.new.self c.next.result (search rules) (search rules) c.loop-column.yielded_by c.next.ensures.steps (c.in-Some.column, c.in-Some.figure) c.in-Some.is
 
 pub write_head-requires-clause-counts : goal.write_head-requires-clause-counts
 write_head-requires-clause-counts g c =
@@ -30,21 +35,20 @@ loop-column-init g c =
 
 pub move_cell-requires-clause-cell : goal.move_cell-requires-clause-cell
 move_cell-requires-clause-cell g c =
-    let turn = cells_turn c.args.sheet.now c.loop-row.row (omega arith) c.loop-column.yielded c.into_iter-column-iterator.result c.loop-column.column-iterator c.next.new.self c.next.result (search rules) (search rules) c.loop-column.yielded_by c.next.ensures.steps (c.in-Some.column, c.in-Some.figure) c.in-Some.is in
+    let turn = turn_here g (goal.at.move_cell-requires-clause-cell g c).In-Some in
     (omega (arith, turn.column, turn.below), omega arith)
 
 pub move_cell-requires-clause-free : goal.move_cell-requires-clause-free
 move_cell-requires-clause-free g c =
-    let turn = cells_turn c.args.sheet.now c.loop-row.row (omega arith) c.loop-column.yielded c.into_iter-column-iterator.result c.loop-column.column-iterator c.next.new.self c.next.result (search rules) (search rules) c.loop-column.yielded_by c.next.ensures.steps (c.in-Some.column, c.in-Some.figure) c.in-Some.is in
+    let turn = turn_here g (goal.at.move_cell-requires-clause-free g c).In-Some in
     place_free c.loop-column.invariant c.loop-row.row (omega arith) (omega arith) (omega (arith, turn.within)) _ turn.column
 
 pub loop-column-preserved : goal.loop-column-preserved
 loop-column-preserved g c =
     let words = c.args.sheet.now.words.now in
-    let turn = cells_turn c.args.sheet.now c.loop-row.row (omega arith) c.loop-column.yielded c.into_iter-column-iterator.result c.loop-column.column-iterator c.next.new.self c.next.result (search rules) (search rules) c.loop-column.yielded_by c.next.ensures.steps (c.in-Some.column, c.in-Some.figure) c.in-Some.is in
+    let turn = turn_here g (goal.at.loop-column-preserved g c).In-Some in
     let moved = c.move_cell.ensures in
-    let next : get_or words c.loop-row.row 0 + length (c.loop-column.yielded ++ (c.in-Some.column, c.in-Some.figure) ∷ []) ≡ get_or words c.loop-row.row 0 + length c.loop-column.yielded + 1 = omega (arith, length_push c.loop-column.yielded (c.in-Some.column, c.in-Some.figure)) in
-    rw next (walking_cell c.loop-column.invariant c.loop-row.row (omega arith) (omega arith) (omega (arith, turn.within)) _ turn.column _ turn.figure _ _ _ moved.word moved.figure moved.next)
+    rw next_place (walking_cell c.loop-column.invariant c.loop-row.row (omega arith) (omega arith) (omega (arith, turn.within)) _ turn.column _ turn.figure _ _ _ moved.word moved.figure moved.next)
 
 pub loop-row-preserved : goal.loop-row-preserved
 loop-row-preserved g c =

@@ -13,7 +13,36 @@ use Rattle.book.proofs.Starts.{few}
 use Rattle.book.proofs.Sheets.{order_most, sheets_few}
 use Rattle.book.proofs.Pairs.{lying_used, used_table, flip_granted}
 use Rattle.book.proofs.Rooms.{Making, making_arrays, making_sent, making_room, making_end, making_done}
+use Rattle.book.proofs.flipping.flip.Given.{Over}
+use Rattle.book.proofs.flipping.flip.Goals.{After-sheet_at-sheet}
 use Rattle.book.proofs.flipping.flip.Goals as goal
+
+-- what the call knows of the new sheet once it has the old one
+made : (g : Over) (c : After-sheet_at-sheet g) →
+    let a = g.F.Arithmetic.figures in
+    let b : Arrays g.row.F.Denot = record { header = c.args.header.now; index = c.args.index.now; figures = c.args.figures.now } in
+    let k = c.args.sheet in
+    let sheet = c.sheet_at-sheet.result in
+    let used = c.split_at_mut-used.result in
+    let used' = c.split_at_mut-used_figures.result in
+    Making a b (guard a b ++ (missing b (k ∷ []) ∷ (full (sheets_of b) ∷ []))) (flipped (sheet_table a b k)) used.0.now used.1.now used'.0.now used'.1.now sheet.order (flipped (table_of sheet)) (length sheet.words.now)
+made g c =
+    let a = g.F.Arithmetic.figures in
+    let b : Arrays g.row.F.Denot = record { header = c.args.header.now; index = c.args.index.now; figures = c.args.figures.now } in
+    let k = c.args.sheet in
+    let found = c.in_ok-place.ensures in
+    let used = rw c.last_end-end.ensures at c.split_at_mut-used.ensures in
+    let used' = rw c.last_end-end.ensures at c.split_at_mut-used_figures.ensures in
+    let few = few_from (sheets_of b) (sheets_few a b found.sound) (rw c.sheets.ensures at c.in_ok-check_full.ensures) in
+    let is = c.sheet_at-sheet.ensures in
+    record {
+      sound = found.sound;
+      split = record { used_is = used.front; free_is = used.back; whole = used.value; used_is' = used'.front; free_is' = used'.back; whole' = used'.value };
+      pass = flip_granted a b k found.sound found.there few;
+      order = is.order ∙ c.order-order.ensures;
+      same = ap flipped (used_table a b k _ found _ _ used.front used'.front _ _ is.words is.figures);
+      size_is = sym (flipped_length a.ring _ _ _ (sheet_sound c.sheet_at-sheet.result));
+    }
 
 pub returns-in_err-place : goal.returns-in_err-place
 returns-in_err-place g c =
@@ -39,115 +68,31 @@ sheet_at-sheet-requires g c =
 
 pub returns-in_err-check_room : goal.returns-in_err-check_room
 returns-in_err-check_room g c =
-    let a = g.F.Arithmetic.figures in
-    let b : Arrays g.row.F.Denot = record { header = c.args.header.now; index = c.args.index.now; figures = c.args.figures.now } in
-    let k = c.args.sheet in
-    let found = c.in_ok-place.ensures in
-    let sound = found.sound in
-    let used = rw c.last_end-end.ensures at c.split_at_mut-used.ensures in
-    let used' = rw c.last_end-end.ensures at c.split_at_mut-used_figures.ensures in
-    let few = few_from (sheets_of b) (sheets_few a b sound) (rw c.sheets.ensures at c.in_ok-check_full.ensures) in
-    let sheet = c.sheet_at-sheet.result in
-    let is = c.sheet_at-sheet.ensures in
-    let made : Making a b (guard a b ++ (missing b (k ∷ []) ∷ (full (sheets_of b) ∷ []))) (flipped (sheet_table a b k)) _ _ _ _ sheet.order (flipped (table_of sheet)) (length sheet.words.now) = record {
-      sound = sound;
-      split = record { used_is = used.front; free_is = used.back; whole = used.value; used_is' = used'.front; free_is' = used'.back; whole' = used'.value };
-      pass = flip_granted a b k sound found.there few;
-      order = is.order ∙ c.order-order.ensures;
-      same = ap flipped (used_table a b k _ found _ _ used.front used'.front _ _ is.words is.figures);
-      size_is = sym (flipped_length a.ring _ _ _ (sheet_sound sheet));
-    } in
-    let p = making_sent made c.from_residual-in_err-check_room.result c.in_err-check_room.field-0.0 c.from_residual-in_err-check_room.ensures.1 c.in_err-check_room.ensures in
+    let p = making_sent (made g (goal.at.returns-in_err-check_room g c).After-sheet_at-sheet) c.from_residual-in_err-check_room.result c.in_err-check_room.field-0.0 c.from_residual-in_err-check_room.ensures.1 c.in_err-check_room.ensures in
     rw p.1 p.2
 
 pub write_flipped-requires : goal.write_flipped-requires
 write_flipped-requires g c =
     let a = g.F.Arithmetic.figures in
     let b : Arrays g.row.F.Denot = record { header = c.args.header.now; index = c.args.index.now; figures = c.args.figures.now } in
-    let k = c.args.sheet in
-    let found = c.in_ok-place.ensures in
-    let sound = found.sound in
-    let used = rw c.last_end-end.ensures at c.split_at_mut-used.ensures in
-    let used' = rw c.last_end-end.ensures at c.split_at_mut-used_figures.ensures in
-    let few = few_from (sheets_of b) (sheets_few a b sound) (rw c.sheets.ensures at c.in_ok-check_full.ensures) in
-    let sheet = c.sheet_at-sheet.result in
-    let is = c.sheet_at-sheet.ensures in
-    let made : Making a b (guard a b ++ (missing b (k ∷ []) ∷ (full (sheets_of b) ∷ []))) (flipped (sheet_table a b k)) _ _ _ _ sheet.order (flipped (table_of sheet)) (length sheet.words.now) = record {
-      sound = sound;
-      split = record { used_is = used.front; free_is = used.back; whole = used.value; used_is' = used'.front; free_is' = used'.back; whole' = used'.value };
-      pass = flip_granted a b k sound found.there few;
-      order = is.order ∙ c.order-order.ensures;
-      same = ap flipped (used_table a b k _ found _ _ used.front used'.front _ _ is.words is.figures);
-      size_is = sym (flipped_length a.ring _ _ _ (sheet_sound sheet));
-    } in
-    let arrays = making_arrays made in
-    let fits : length sheet.words.now ≤ _ = rw made.size_is (making_room made c.in_ok-check_room.ensures) in
-    let low : sheet.order ≤ 1024 = rw (is.order ∙ c.order-order.ensures) (order_most a b sound) in
+    let m = made g (goal.at.write_flipped-requires g c).After-sheet_at-sheet in
+    let arrays = making_arrays m in
+    let fits : length c.sheet_at-sheet.result.words.now ≤ length c.split_at_mut-used.result.1.now = rw m.size_is (making_room m c.in_ok-check_room.ensures) in
+    let low : c.sheet_at-sheet.result.order ≤ 1024 = rw m.order (order_most a b m.sound) in
     record { small = (low, omega arith); arrays = arrays; room = fits }
 
 pub overflow_add-end : goal.overflow_add-end
 overflow_add-end g c =
-    let a = g.F.Arithmetic.figures in
-    let b : Arrays g.row.F.Denot = record { header = c.args.header.now; index = c.args.index.now; figures = c.args.figures.now } in
-    let k = c.args.sheet in
-    let found = c.in_ok-place.ensures in
-    let sound = found.sound in
-    let used = rw c.last_end-end.ensures at c.split_at_mut-used.ensures in
-    let used' = rw c.last_end-end.ensures at c.split_at_mut-used_figures.ensures in
-    let few = few_from (sheets_of b) (sheets_few a b sound) (rw c.sheets.ensures at c.in_ok-check_full.ensures) in
-    let sheet = c.sheet_at-sheet.result in
-    let is = c.sheet_at-sheet.ensures in
-    let made : Making a b (guard a b ++ (missing b (k ∷ []) ∷ (full (sheets_of b) ∷ []))) (flipped (sheet_table a b k)) _ _ _ _ sheet.order (flipped (table_of sheet)) (length sheet.words.now) = record {
-      sound = sound;
-      split = record { used_is = used.front; free_is = used.back; whole = used.value; used_is' = used'.front; free_is' = used'.back; whole' = used'.value };
-      pass = flip_granted a b k sound found.there few;
-      order = is.order ∙ c.order-order.ensures;
-      same = ap flipped (used_table a b k _ found _ _ used.front used'.front _ _ is.words is.figures);
-      size_is = sym (flipped_length a.ring _ _ _ (sheet_sound sheet));
-    } in
-    omega (arith, making_end made c.in_ok-check_room.ensures)
+    omega (arith, making_end (made g (goal.at.overflow_add-end g c).After-sheet_at-sheet) c.in_ok-check_room.ensures)
 
 pub enter_sheet-requires : goal.enter_sheet-requires
 enter_sheet-requires g c =
     let a = g.F.Arithmetic.figures in
     let b : Arrays g.row.F.Denot = record { header = c.args.header.now; index = c.args.index.now; figures = c.args.figures.now } in
-    let k = c.args.sheet in
-    let found = c.in_ok-place.ensures in
-    let sound = found.sound in
-    let used = rw c.last_end-end.ensures at c.split_at_mut-used.ensures in
-    let used' = rw c.last_end-end.ensures at c.split_at_mut-used_figures.ensures in
-    let few = few_from (sheets_of b) (sheets_few a b sound) (rw c.sheets.ensures at c.in_ok-check_full.ensures) in
-    let sheet = c.sheet_at-sheet.result in
-    let is = c.sheet_at-sheet.ensures in
-    let made : Making a b (guard a b ++ (missing b (k ∷ []) ∷ (full (sheets_of b) ∷ []))) (flipped (sheet_table a b k)) _ _ _ _ sheet.order (flipped (table_of sheet)) (length sheet.words.now) = record {
-      sound = sound;
-      split = record { used_is = used.front; free_is = used.back; whole = used.value; used_is' = used'.front; free_is' = used'.back; whole' = used'.value };
-      pass = flip_granted a b k sound found.there few;
-      order = is.order ∙ c.order-order.ensures;
-      same = ap flipped (used_table a b k _ found _ _ used.front used'.front _ _ is.words is.figures);
-      size_is = sym (flipped_length a.ring _ _ _ (sheet_sound sheet));
-    } in
-    (sound.words, (few, rw c.last_end-end.ensures (making_end made c.in_ok-check_room.ensures)))
+    let m = made g (goal.at.enter_sheet-requires g c).After-sheet_at-sheet in
+    (m.sound.words, (few_from (sheets_of b) (sheets_few a b m.sound) (rw c.sheets.ensures at c.in_ok-check_full.ensures), rw c.last_end-end.ensures (making_end m c.in_ok-check_room.ensures)))
 
 pub returns : goal.returns
 returns g c =
-    let a = g.F.Arithmetic.figures in
-    let b : Arrays g.row.F.Denot = record { header = c.args.header.now; index = c.args.index.now; figures = c.args.figures.now } in
-    let k = c.args.sheet in
-    let found = c.in_ok-place.ensures in
-    let sound = found.sound in
-    let used = rw c.last_end-end.ensures at c.split_at_mut-used.ensures in
-    let used' = rw c.last_end-end.ensures at c.split_at_mut-used_figures.ensures in
-    let few = few_from (sheets_of b) (sheets_few a b sound) (rw c.sheets.ensures at c.in_ok-check_full.ensures) in
-    let sheet = c.sheet_at-sheet.result in
-    let is = c.sheet_at-sheet.ensures in
-    let made : Making a b (guard a b ++ (missing b (k ∷ []) ∷ (full (sheets_of b) ∷ []))) (flipped (sheet_table a b k)) _ _ _ _ sheet.order (flipped (table_of sheet)) (length sheet.words.now) = record {
-      sound = sound;
-      split = record { used_is = used.front; free_is = used.back; whole = used.value; used_is' = used'.front; free_is' = used'.back; whole' = used'.value };
-      pass = flip_granted a b k sound found.there few;
-      order = is.order ∙ c.order-order.ensures;
-      same = ap flipped (used_table a b k _ found _ _ used.front used'.front _ _ is.words is.figures);
-      size_is = sym (flipped_length a.ring _ _ _ (sheet_sound sheet));
-    } in
-    let done = making_done made c.in_ok-check_room.ensures c.enter_sheet.new.header c.write_flipped.new.index c.write_flipped.new.figures c.write_flipped.ensures (rw c.last_end-end.ensures at c.enter_sheet.ensures.words) in
+    let done = making_done (made g (goal.at.returns g c).After-sheet_at-sheet) c.in_ok-check_room.ensures c.enter_sheet.new.header c.write_flipped.new.index c.write_flipped.new.figures c.write_flipped.ensures (rw c.last_end-end.ensures at c.enter_sheet.ensures.words) in
     (done.0, (c.enter_sheet.ensures.number, done.1))

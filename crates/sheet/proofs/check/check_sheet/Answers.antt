@@ -1,4 +1,5 @@
-use Rattle.std.proofs.Common.{◌≡◌, ℕ, ◌+◌, true, false, slice_index, refl, arith, below_more}
+use Rattle.std.proofs.Common.{◌≡◌, ◌+◌, slice_index, refl, arith, below_more}
+use Rattle.std.proofs.lemmas.Bool.{false≢true}
 use Rattle.sheet.proofs.Rows.{walk_rises}
 use Rattle.sheet.proofs.check.check_sheet.Goals as goal
 
@@ -18,15 +19,12 @@ cell_keeps-requires g c =
     let within = ((w.keep (c.loop-row.row + 1) (omega arith)).head (omega arith)).within (omega arith) in
     record { sizes = (omega arith, (omega arith, (omega arith, walk_rises w))); in_row = (omega arith, (omega arith, omega arith)) }
 
-apart : false ≡ true → ⊥
-apart e = let z : ◌≡◌ {A = ℕ} 0 1 = cc in omega arith
-
 pub returns-then-not-cell_keeps : goal.returns-then-not-cell_keeps
 returns-then-not-cell_keeps g c =
     let w = c.loop-p-2.invariant in
     let past = w.past in
     let within = ((w.keep (c.loop-row.row + 1) (omega arith)).head (omega arith)).within (omega arith) in
-    (c.loop-p-2.p, refl, (omega arith, (λ rule. apart (c.if-not-cell_keeps.ensures.1 rule)), w.keep))
+    (c.loop-p-2.p, refl, (omega arith, (λ rule. false≢true (c.if-not-cell_keeps.ensures.1 rule)), w.keep))
 
 pub loop-p-2-preserved : goal.loop-p-2-preserved
 loop-p-2-preserved g c =

@@ -1,6 +1,6 @@
 use Rattle.std.proofs.Common.{◌≤◌, ◌∙◌, arith, rules}
 use Rattle.sheet.proofs.Lists.{spot_small}
-use Rattle.sum.specs.Merging.{summed}
+use Rattle.sum.specs.Merging.{pair_sum}
 use Rattle.sum.proofs.Steps.{counted_cell, counted_row}
 use Rattle.sum.proofs.summing.added_length.Goals as goal
 
@@ -11,7 +11,7 @@ overflow_add-length-in-Some g c =
     let inv = c.loop-cell.invariant in
     let counted = inv.counted in
     let within : c.loop-cell.merge.from ≤ pair.first.order = rw inv.pair at c.loop-cell.merge.merging.from_within in
-    let few = spot_small a.ring pair.first.order (summed a pair.first.words.now pair.first.figures.now pair.second.words.now pair.second.figures.now) c.loop-row.row c.loop-cell.merge.from pair.small_order in
+    let few = spot_small a.ring pair.first.order (pair_sum pair) c.loop-row.row c.loop-cell.merge.from pair.small_order in
     omega (arith, pair.small_order, c.places-length.ensures.small)
 
 pub loop-cell-preserved : goal.loop-cell-preserved
@@ -23,7 +23,7 @@ loop-cell-preserved g c =
     record {
       pair = search rules;
       row = next.4;
-      counted = counted_cell a pair.first.order (summed a pair.first.words.now pair.first.figures.now pair.second.words.now pair.second.figures.now) c.loop-row.row c.loop-cell.merge.from (omega arith) _ _ c.in-Some.cell next c.loop-cell.length c.places-length.result inv.counted c.places-length.ensures.count;
+      counted = counted_cell a pair.first.order (pair_sum pair) c.loop-row.row c.loop-cell.merge.from (omega arith) _ _ c.in-Some.cell next c.loop-cell.length c.places-length.result inv.counted c.places-length.ensures.count;
     }
 
 pub loop-row-preserved : goal.loop-row-preserved
@@ -37,5 +37,5 @@ loop-row-preserved g c =
       pair = search rules;
       row = next.1;
       from = next.2;
-      counted = inv.counted ∙ counted_row a pair.first.order (summed a pair.first.words.now pair.first.figures.now pair.second.words.now pair.second.figures.now) c.loop-row.row c.loop-cell.merge.from (omega arith) _ _ within next;
+      counted = inv.counted ∙ counted_row a pair.first.order (pair_sum pair) c.loop-row.row c.loop-cell.merge.from (omega arith) _ _ within next;
     }

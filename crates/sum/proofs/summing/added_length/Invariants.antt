@@ -1,6 +1,6 @@
 use Rattle.std.proofs.Common.{◌≡◌, ◌-◌}
 use Rattle.sheet.proofs.Laying.{spot}
-use Rattle.sum.specs.Merging.{summed}
+use Rattle.sum.specs.Merging.{pair_sum}
 use Rattle.sum.proofs.summing.added_length.Given as goal
 
 abbrev pub invariant-loop-row : goal.invariant-loop-row
@@ -10,7 +10,7 @@ invariant-loop-row g l =
       pair : l.merge.pair.now ≡ l.pair;
       row : l.merge.row ≡ l.row;
       from : l.merge.from ≡ 0;
-      counted : l.length ≡ spot a.ring l.pair.first.order (summed a l.pair.first.words.now l.pair.first.figures.now l.pair.second.words.now l.pair.second.figures.now) l.row 0;
+      counted : l.length ≡ spot a.ring l.pair.first.order (pair_sum l.pair) l.row 0;
     }
 
 abbrev pub invariant-loop-cell : goal.invariant-loop-cell
@@ -19,7 +19,7 @@ invariant-loop-cell g l =
     record {
       pair : l.merge.pair.now ≡ l.pair;
       row : l.merge.row ≡ l.row;
-      counted : l.length ≡ spot a.ring l.pair.first.order (summed a l.pair.first.words.now l.pair.first.figures.now l.pair.second.words.now l.pair.second.figures.now) l.row l.merge.from;
+      counted : l.length ≡ spot a.ring l.pair.first.order (pair_sum l.pair) l.row l.merge.from;
     }
 
 abbrev pub decreases-loop-cell : goal.decreases-loop-cell

@@ -1,6 +1,6 @@
 use Rattle.std.proofs.Common.{◌≤◌, arith, rules}
 use Rattle.sheet.proofs.Laying.{head_room, laying_start, laying_all}
-use Rattle.sum.specs.Merging.{summed}
+use Rattle.sum.specs.Merging.{pair_sum}
 use Rattle.sum.proofs.Steps.{written_room, written_cell, written_end, written_row}
 use Rattle.sum.proofs.summing.write_added.Goals as goal
 
@@ -8,7 +8,7 @@ pub start_row-requires : goal.start_row-requires
 start_row-requires g c =
     let a = g.F.Arithmetic.figures in
     let pair = c.args.pair.now in
-    let t = summed a pair.first.words.now pair.first.figures.now pair.second.words.now pair.second.figures.now in
+    let t = pair_sum pair in
     let head = head_room a pair.first.order t c.args.index.now c.args.figures.now c.requires.room (omega arith) in
     (omega arith, (omega arith, omega (arith, pair.small_order)))
 
@@ -16,7 +16,7 @@ pub loop-row-init : goal.loop-row-init
 loop-row-init g c =
     let a = g.F.Arithmetic.figures in
     let pair = c.args.pair.now in
-    let t = summed a pair.first.words.now pair.first.figures.now pair.second.words.now pair.second.figures.now in
+    let t = pair_sum pair in
     record {
       pair = search rules;
       row = search rules;
@@ -28,7 +28,7 @@ pub write_entry-at-requires : goal.write_entry-at-requires
 write_entry-at-requires g c =
     let a = g.F.Arithmetic.figures in
     let pair = c.args.pair.now in
-    let t = summed a pair.first.words.now pair.first.figures.now pair.second.words.now pair.second.figures.now in
+    let t = pair_sum pair in
     let inv = c.loop-cell.invariant in
     let head = head_room a pair.first.order t c.args.index.now c.args.figures.now c.requires.room (omega arith) in
     let next = rw (inv.pair, inv.row, c.in-Some.is) at c.next_cell.ensures.next in
@@ -42,7 +42,7 @@ pub loop-cell-preserved : goal.loop-cell-preserved
 loop-cell-preserved g c =
     let a = g.F.Arithmetic.figures in
     let pair = c.args.pair.now in
-    let t = summed a pair.first.words.now pair.first.figures.now pair.second.words.now pair.second.figures.now in
+    let t = pair_sum pair in
     let inv = c.loop-cell.invariant in
     let next = rw (inv.pair, inv.row, c.in-Some.is) at c.next_cell.ensures.next in
     record {
@@ -55,7 +55,7 @@ pub start_row-requires-in-loop-row : goal.start_row-requires-in-loop-row
 start_row-requires-in-loop-row g c =
     let a = g.F.Arithmetic.figures in
     let pair = c.args.pair.now in
-    let t = summed a pair.first.words.now pair.first.figures.now pair.second.words.now pair.second.figures.now in
+    let t = pair_sum pair in
     let inv = c.loop-cell.invariant in
     let head = head_room a pair.first.order t c.args.index.now c.args.figures.now c.requires.room (omega arith) in
     let next = rw (inv.pair, inv.row, c.in_default.is) at c.next_cell.ensures.next in
@@ -67,7 +67,7 @@ pub loop-row-preserved : goal.loop-row-preserved
 loop-row-preserved g c =
     let a = g.F.Arithmetic.figures in
     let pair = c.args.pair.now in
-    let t = summed a pair.first.words.now pair.first.figures.now pair.second.words.now pair.second.figures.now in
+    let t = pair_sum pair in
     let inv = c.loop-cell.invariant in
     let next = rw (inv.pair, inv.row, c.in_default.is) at c.next_cell.ensures.next in
     let within : c.loop-cell.merge.from ≤ pair.first.order = rw inv.pair at c.loop-cell.merge.merging.from_within in
@@ -82,5 +82,5 @@ pub returns : goal.returns
 returns g c =
     let a = g.F.Arithmetic.figures in
     let pair = c.args.pair.now in
-    let t = summed a pair.first.words.now pair.first.figures.now pair.second.words.now pair.second.figures.now in
+    let t = pair_sum pair in
     (laying_all a pair.first.order t c.args.index.now c.args.figures.now c.requires.room (omega arith) c.loop-row.row (omega arith) c.loop-row.index c.loop-row.figures c.loop-row.at c.loop-row.invariant.laying).0

@@ -1,6 +1,6 @@
 use Rattle.std.proofs.Common.{◌≡◌, ◌-◌}
 use Rattle.sheet.proofs.Laying.{Laying}
-use Rattle.sum.specs.Merging.{summed}
+use Rattle.sum.specs.Merging.{pair_sum}
 use Rattle.sum.proofs.summing.write_added.Given as goal
 
 abbrev pub invariant-loop-row : goal.invariant-loop-row
@@ -10,7 +10,7 @@ invariant-loop-row g l =
       pair : l.merge.pair.now ≡ l.pair;
       row : l.merge.row ≡ l.row;
       from : l.merge.from ≡ 0;
-      laying : Laying a l.pair.first.order (summed a l.pair.first.words.now l.pair.first.figures.now l.pair.second.words.now l.pair.second.figures.now) l.fn.index l.fn.figures l.row 0 l.index l.figures l.at;
+      laying : Laying a l.pair.first.order (pair_sum l.pair) l.fn.index l.fn.figures l.row 0 l.index l.figures l.at;
     }
 
 abbrev pub invariant-loop-cell : goal.invariant-loop-cell
@@ -19,7 +19,7 @@ invariant-loop-cell g l =
     record {
       pair : l.merge.pair.now ≡ l.pair;
       row : l.merge.row ≡ l.row;
-      laying : Laying a l.pair.first.order (summed a l.pair.first.words.now l.pair.first.figures.now l.pair.second.words.now l.pair.second.figures.now) l.fn.index l.fn.figures l.row l.merge.from l.index l.figures l.at;
+      laying : Laying a l.pair.first.order (pair_sum l.pair) l.fn.index l.fn.figures l.row l.merge.from l.index l.figures l.at;
     }
 
 abbrev pub decreases-loop-cell : goal.decreases-loop-cell

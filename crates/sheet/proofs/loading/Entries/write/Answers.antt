@@ -1,5 +1,6 @@
-use Rattle.std.proofs.Common.{◌≡◌, ℕ, ◌<◌, true, false, length, get_or, sym, refl, ◌∙◌, arith}
+use Rattle.std.proofs.Common.{◌≡◌, ◌<◌, length, get_or, sym, refl, ◌∙◌, arith}
 use Rattle.std.proofs.lemmas.List.{get_or_default}
+use Rattle.std.proofs.lemmas.Bool.{iff_false}
 use Rattle.sheet.proofs.Lists.{listed}
 use Rattle.sheet.proofs.Laying.{head_room}
 use Rattle.sheet.proofs.Loads.{loading_start, loading_entry, entry_room, loading_row, row_room, loading_all}
@@ -36,14 +37,11 @@ loop-index-preserved g c =
     let here = c.loop-index-test.ensures.0 refl in
     loading_entry a c.args.order e.rows.now e.columns.now e.figures.now e.a_column_each e.a_figure_each c.requires.placed c.args.index.now c.args.figures.now c.requires.room (omega arith) c.loop-index.k c.loop-row.row here.0 here.1 (omega arith) c.loop-index.index c.loop-index.figures c.loop-index.at c.loop-index.invariant _ (get_or_default e.figures.now c.loop-index.k c.index-self-k.result _ (omega (arith, here.0))) c.write_entry-at.new.index c.write_entry-at.new.figures c.write_entry-at.result c.write_entry-at.ensures
 
-apart : false ≡ true → ⊥
-apart e = let z : ◌≡◌ {A = ℕ} 0 1 = cc in omega arith
-
 pub start_row-requires-in-loop-row : goal.start_row-requires-in-loop-row
 start_row-requires-in-loop-row g c =
     let a = g.F.Arithmetic.figures in
     let e = c.args.self.now in
-    let over : (c.loop-index.k < length e.rows.now) × (get_or e.rows.now c.loop-index.k 0 ≡ c.loop-row.row) → ⊥ = λ h. apart (c.loop-index-test.ensures.1 h) in
+    let over : (c.loop-index.k < length e.rows.now) × (get_or e.rows.now c.loop-index.k 0 ≡ c.loop-row.row) → ⊥ = iff_false c.loop-index-test.ensures refl in
     let end = row_room a c.args.order e.rows.now e.columns.now e.figures.now e.a_column_each e.a_figure_each c.requires.placed c.args.index.now c.args.figures.now c.requires.room (omega arith) c.loop-index.k c.loop-row.row (omega arith) c.loop-index.index c.loop-index.figures c.loop-index.at c.loop-index.invariant over in
     let head = head_room a c.args.order (listed a e.rows.now e.columns.now e.figures.now) c.args.index.now c.args.figures.now c.requires.room (omega arith) in
     (omega arith, (omega arith, omega arith))
@@ -52,7 +50,7 @@ pub loop-row-preserved : goal.loop-row-preserved
 loop-row-preserved g c =
     let a = g.F.Arithmetic.figures in
     let e = c.args.self.now in
-    let over : (c.loop-index.k < length e.rows.now) × (get_or e.rows.now c.loop-index.k 0 ≡ c.loop-row.row) → ⊥ = λ h. apart (c.loop-index-test.ensures.1 h) in
+    let over : (c.loop-index.k < length e.rows.now) × (get_or e.rows.now c.loop-index.k 0 ≡ c.loop-row.row) → ⊥ = iff_false c.loop-index-test.ensures refl in
     loading_row a c.args.order e.rows.now e.columns.now e.figures.now e.a_column_each e.a_figure_each c.requires.placed c.args.index.now c.args.figures.now c.requires.room (omega arith) c.loop-index.k c.loop-row.row (omega arith) c.loop-index.index c.loop-index.figures c.loop-index.at c.loop-index.invariant over c.start_row-in-loop-row.new.index c.start_row-in-loop-row.new.figures c.start_row-in-loop-row.ensures
 
 pub returns : goal.returns

@@ -1,8 +1,10 @@
-use Rattle.std.proofs.Common.{◌+◌, ◌<◌, ◌≤◌, cond, eqb, sym, refl, ap₂, ◌∙◌, arith}
+use Rattle.std.proofs.Common.{◌+◌, ◌<◌, ◌≤◌, cond, eqb, length, sym, refl, ap₂, ◌∙◌, arith}
 use Rattle.arithmetic.specs.Semiring.{meanings}
 use Rattle.sheet.proofs.Found.{row_within}
 use Rattle.sheet.proofs.Pairs.{first_sound, second_sound}
 use Rattle.sum.proofs.Merges.{some_next, none_next, next_from, merging_gap, merging_row, spots_within, merged_here, merging_next}
+use Rattle.sum.proofs.merge.Merge.next_cell.Given.{Over}
+use Rattle.sum.proofs.merge.Merge.next_cell.Goals.{After-spot-y}
 use Rattle.sum.proofs.merge.Merge.next_cell.Goals as goal
 
 pub invariant_of-self : goal.invariant_of-self
@@ -25,27 +27,22 @@ returns-in_default-clause-next g c =
     let over = none_next _ pair.first.order (sym c.in_default.is ∙ c.next_column.ensures) in
     ((λ j from to. merging_gap a.ring pair.first.order pair.first.words.now fs pair.second.words.now gs (first_sound pair) (second_sound pair) m.row m.from m.p m.q c.requires m.merging j from (omega arith)), refl, refl)
 
-pub figure-requires : goal.figure-requires
-figure-requires g c =
+-- the spots of the next column lie within the sheets
+within : (g : Over) (c : After-spot-y g) → (c.spot-x.result < length c.args.self.now.pair.now.first.words.now) × (c.spot-y.result < length c.args.self.now.pair.now.second.words.now)
+within g c =
     let a = g.F.Arithmetic.figures in
     let m = c.args.self.now in
     let pair = m.pair.now in
     let fs = meanings a pair.first.figures.now in
     let gs = meanings a pair.second.figures.now in
     let next = some_next _ pair.first.order c.in-Some.column (sym c.in-Some.is ∙ c.next_column.ensures) in
-    let within = spots_within a.ring pair.first.order pair.first.words.now fs pair.second.words.now gs (first_sound pair) (second_sound pair) m.row m.from m.p m.q c.requires m.merging c.in-Some.column next.0 (rw next.0 next.1) c.spot-x.result c.spot-y.result c.spot-x.ensures (rw pair.one_order at c.spot-y.ensures) (cond (eqb c.spot-x.result m.p) (m.p + 1) m.p) (cond (eqb c.spot-y.result m.q) (m.q + 1) m.q) refl refl in
-    within.0
+    spots_within a.ring pair.first.order pair.first.words.now fs pair.second.words.now gs (first_sound pair) (second_sound pair) m.row m.from m.p m.q c.requires m.merging c.in-Some.column next.0 (rw next.0 next.1) c.spot-x.result c.spot-y.result c.spot-x.ensures (rw pair.one_order at c.spot-y.ensures) (cond (eqb c.spot-x.result m.p) (m.p + 1) m.p) (cond (eqb c.spot-y.result m.q) (m.q + 1) m.q) refl refl
+
+pub figure-requires : goal.figure-requires
+figure-requires g c = (within g (goal.at.figure-requires g c).After-spot-y).0
 
 pub figure-requires-2 : goal.figure-requires-2
-figure-requires-2 g c =
-    let a = g.F.Arithmetic.figures in
-    let m = c.args.self.now in
-    let pair = m.pair.now in
-    let fs = meanings a pair.first.figures.now in
-    let gs = meanings a pair.second.figures.now in
-    let next = some_next _ pair.first.order c.in-Some.column (sym c.in-Some.is ∙ c.next_column.ensures) in
-    let within = spots_within a.ring pair.first.order pair.first.words.now fs pair.second.words.now gs (first_sound pair) (second_sound pair) m.row m.from m.p m.q c.requires m.merging c.in-Some.column next.0 (rw next.0 next.1) c.spot-x.result c.spot-y.result c.spot-x.ensures (rw pair.one_order at c.spot-y.ensures) (cond (eqb c.spot-x.result m.p) (m.p + 1) m.p) (cond (eqb c.spot-y.result m.q) (m.q + 1) m.q) refl refl in
-    within.1
+figure-requires-2 g c = (within g (goal.at.figure-requires-2 g c).After-spot-y).1
 
 pub advanced-self-requires : goal.advanced-self-requires
 advanced-self-requires g c =
