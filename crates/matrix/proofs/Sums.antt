@@ -1,10 +1,16 @@
 -- The laws of a sum over the numbers below n.
-use Rattle.std.proofs.Common.{◌≡◌, ℕ, zero, suc, ◌+◌, ◌<◌, sym, refl, ap, ◌∙◌, subst, ap₂, ⊎_elim, add-zero as nat-add-zero, add-suc, arith}
+use Rattle.std.proofs.Common.{◌≡◌, ℕ, zero, suc, ◌+◌, ◌<◌, sym, refl, ap, ◌∙◌, subst, ap₂, ⊎_elim, add-zero as nat-add-zero, add-suc, add-one, arith}
 use Rattle.std.proofs.lemmas.Bool.{cases_eq}
 use Rattle.arithmetic.specs.Semiring.{Semiring}
 use Rattle.matrix.specs.Tables.{sum}
 
 module _ {F : Type 0} (s : Semiring F) where
+  pub sum_none : (f : ℕ → F) → s.zero ≡ sum s 0 f
+  sum_none f = refl
+
+  pub sum_more : (n : ℕ) (f : ℕ → F) → sum s (n + 1) f ≡ s.add (sum s n f) (f n)
+  sum_more n f = rw add-one refl
+
   pub sum_same : (n : ℕ) (f g : ℕ → F) → ((i : ℕ) → i < n → f i ≡ g i) → sum s n f ≡ sum s n g
   sum_same zero f g same = refl
   sum_same (suc n) f g same = ap₂ s.add (sum_same n f g (λ i h. same i (omega arith))) (same n (omega arith))

@@ -5,7 +5,7 @@ use Rattle.std.proofs.lemmas.Bool.{cases_eq}
 use Rattle.arithmetic.specs.Semiring.{Semiring}
 use Rattle.matrix.specs.Tables.{sum}
 use Rattle.matrix.specs.Vectors.{Vector, row_worked, figure_at}
-use Rattle.matrix.proofs.Sums.{add-zero, sum_change}
+use Rattle.matrix.proofs.Sums.{add-zero, sum_more, sum_change}
 use Rattle.sheet.specs.Packed.{Sound, found, table}
 use Rattle.workings.specs.Scattering.{off_cell, Grew}
 use Rattle.sheet.proofs.Found.{cell_at, found_here, found_past, found_once, found_none, off_diagonal, table_here, table_off}
@@ -48,6 +48,13 @@ Spread s n ws fs y out i = (c : ℕ) → c < n → figure_at s out c ≡ s.add (
 module _ {F : Type 0} (s : Semiring F) (n : ℕ) (ws : List ℕ) (fs : List F) (y : Vector F) where
   pub spread_none : (out : List F) → ((c : ℕ) → c < n → figure_at s out c ≡ s.mul (y c) (figure_at s fs c)) → Spread s n ws fs y out 0
   spread_none out is c h = is c h ∙ sym (add-zero s _)
+
+  pub spread_more : (before out : List F) (i : ℕ) → Spread s n ws fs y before i → Grew s n (λ c. s.mul (y i) (off_cell s ws fs i c)) before out → Spread s n ws fs y out (i + 1)
+  spread_more before out i so_far grew c h =
+      grew c h
+      ∙ (ap (λ u. s.add u (s.mul (y i) (off_cell s ws fs i c))) (so_far c h)
+      ∙ (s.add_assoc _ _ _
+      ∙ ap (s.add (s.mul (y c) (figure_at s fs c))) (sym (sum_more s i (λ k. s.mul (y k) (off_cell s ws fs k c))))))
 
   -- the whole of column c: its diagonal and what the rows store in it
   pub spread_whole : Sound s n ws fs → (c : ℕ) → c < n → row_worked s n y (table s ws fs) c ≡ s.add (s.mul (y c) (figure_at s fs c)) (sum s n (λ k. s.mul (y k) (off_cell s ws fs k c)))

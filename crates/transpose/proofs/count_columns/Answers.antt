@@ -1,8 +1,7 @@
-use Rattle.std.proofs.Common.{◌+◌, ◌-◌, length, get_or, take, drop, refl, ◌∙◌, arith, length-set}
+use Rattle.std.proofs.Common.{◌+◌, ◌-◌, length, get_or, take, drop, refl, arith}
 use Rattle.std.proofs.lemmas.List.{get_or-replicate}
-use Rattle.sheet.proofs.Cells.{part_at}
 use Rattle.sheet.proofs.Known.{sheet_sound}
-use Rattle.transpose.proofs.Hits.{counted_more, hits_few, column_past}
+use Rattle.transpose.proofs.Hits.{hits_few, column_past}
 use Rattle.transpose.proofs.count_columns.Goals as goal
 
 pub loop-column-init : goal.loop-column-init
@@ -29,11 +28,3 @@ bounds-counts-column-in-loop-column g c =
     let a = g.F.Arithmetic.figures in
     let sheet = c.args.sheet.now in
     omega (arith, column_past a.ring sheet.order sheet.words.now _ (sheet_sound sheet) c.loop-column.column-index (omega arith))
-
-pub loop-column-preserved : goal.loop-column-preserved
-loop-column-preserved g c =
-    let a = g.F.Arithmetic.figures in
-    let sheet = c.args.sheet.now in
-    let low = column_past a.ring sheet.order sheet.words.now _ (sheet_sound sheet) c.loop-column.column-index (omega arith) in
-    let counts = c.loop-column.invariant in
-    (length-set c.loop-column.counts _ _ ∙ counts.0, counted_more sheet.words.now (sheet.order + 1) c.loop-column.column-index _ (part_at sheet.words.now (sheet.order + 1) (length sheet.words.now) c.loop-column.column-index 0 (omega arith)) (omega arith) c.loop-column.counts counts.0 counts.1)

@@ -1,4 +1,4 @@
-use Rattle.std.proofs.Common.{◌≡◌, ◌+◌, length, get_or, arith, rules}
+use Rattle.std.proofs.Common.{◌≡◌, length, arith, rules}
 use Rattle.arithmetic.specs.Semiring.{meanings}
 use Rattle.sheet.proofs.Known.{sheet_sound}
 use Rattle.sheet.proofs.Cells.{Turn, next_place, cells_turn, cells_end}
@@ -26,12 +26,6 @@ loop-row-init g c =
     let sound = sheet_sound sheet in
     let head = c.write_head.ensures in
     walking_none record { sound = sound; small = omega arith; room = omega arith; even = omega arith } c.write_head.new.index c.write_head.new.figures c.write_head.new.next head.head (omega arith) head.starts
-
-pub loop-column-init : goal.loop-column-init
-loop-column-init g c =
-    let words = c.args.sheet.now.words.now in
-    let start : get_or words c.loop-row.row 0 + 0 ≡ get_or words c.loop-row.row 0 = omega arith in
-    rw start c.loop-row.invariant
 
 pub move_cell-requires-clause-cell : goal.move_cell-requires-clause-cell
 move_cell-requires-clause-cell g c =

@@ -5,12 +5,6 @@ use Rattle.book.proofs.Passing.{layout_passes, header_passes}
 use Rattle.book.proofs.Starts.{lies, few, none_keep, all_keep, first_break}
 use Rattle.book.proofs.check.check_book.Goals as goal
 
-pub returns-in_err-check_header : goal.returns-in_err-check_header
-returns-in_err-check_header g c =
-    let p = err_from_is_err_and c.from_residual-in_err-check_header.result c.from_residual-in_err-check_header.ensures.1 in
-    let b : Arrays g.row.F.Denot = record { header = c.args.header.now; index = c.args.index.now; figures = c.args.figures.now } in
-    rw (p.1, p.2) (inr (layout_passes b c.in_ok-check_layout.ensures, inl c.in_err-check_header.ensures))
-
 pub loop-k-init : goal.loop-k-init
 loop-k-init g c =
     let headed = c.in_ok-check_header.ensures in

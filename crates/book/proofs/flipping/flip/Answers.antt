@@ -81,10 +81,6 @@ write_flipped-requires g c =
     let low : c.sheet_at-sheet.result.order ≤ 1024 = rw m.order (order_most a b m.sound) in
     record { small = (low, omega arith); arrays = arrays; room = fits }
 
-pub overflow_add-end : goal.overflow_add-end
-overflow_add-end g c =
-    omega (arith, making_end (made g (goal.at.overflow_add-end g c).After-sheet_at-sheet) c.in_ok-check_room.ensures)
-
 pub enter_sheet-requires : goal.enter_sheet-requires
 enter_sheet-requires g c =
     let a = g.F.Arithmetic.figures in

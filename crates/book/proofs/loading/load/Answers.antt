@@ -1,10 +1,11 @@
 use Rattle.std.proofs.Common.{[], ◌∷◌, ◌++◌, refl, inl, inr, arith}
+use Rattle.sheet.specs.Loading.{entries, loaded}
 use Rattle.sheet.proofs.Lists.{listed}
 use Rattle.book.specs.Book.{Arrays, order_of, sheets_of}
 use Rattle.book.specs.Lines.{guard, full, list_lengths, misplaced}
 use Rattle.book.proofs.Passing.{guard_passes, granted_both, no_break}
 use Rattle.book.specs.Calls.{no_room}
-use Rattle.book.proofs.Early.{late}
+use Rattle.book.proofs.Early.{early, late}
 use Rattle.book.proofs.Ends.{end_within, few_from, lists_even}
 use Rattle.book.proofs.Starts.{few}
 use Rattle.book.proofs.Rooms.{Making, making_arrays, making_sent, making_room, making_end, making_done}
@@ -38,6 +39,16 @@ made g c =
       same = refl;
       size_is = c.packed_length-size.ensures;
     }
+
+pub returns-in_err-check_book : goal.returns-in_err-check_book
+returns-in_err-check_book g c =
+    let a = g.F.Arithmetic.figures in
+    let b : Arrays g.row.F.Denot = record { header = c.args.header.now; index = c.args.index.now; figures = c.args.figures.now } in
+    let rows = c.args.rows.now in
+    let columns = c.args.columns.now in
+    let values = c.args.values.now in
+    let p = early a b (list_lengths rows columns values ∷ (full (sheets_of b) ∷ (misplaced (order_of b) rows columns ∷ (no_room a b (loaded a.ring (entries a rows columns values)) ∷ [])))) c.from_residual.result c.in_err-check_book.field-0.0 c.from_residual.ensures.1 c.in_err-check_book.ensures in
+    rw p.1 (p.2, refl)
 
 pub check_entries-requires : goal.check_entries-requires
 check_entries-requires g c = (lists_even c.args.rows.now c.args.columns.now c.args.values.now c.in_ok-check_lists.ensures).0

@@ -1,11 +1,8 @@
-use Rattle.std.proofs.Common.{[], ◌∷◌, ap₂, ◌∙◌, arith}
-use Rattle.arithmetic.specs.Semiring.{meanings}
-use Rattle.sheet.specs.Packed.{table}
+use Rattle.std.proofs.Common.{[], ◌∷◌}
 use Rattle.book.specs.Book.{Arrays}
 use Rattle.book.specs.Lines.{outside}
 use Rattle.book.specs.Checked.{sheet_guard}
 use Rattle.book.proofs.Early.{early_by}
-use Rattle.book.proofs.Looking.{cell_read}
 use Rattle.book.proofs.Pairs.{lying}
 use Rattle.book.proofs.lookup.cell.Goals as goal
 
@@ -19,10 +16,3 @@ pub sheet_at-requires : goal.sheet_at-requires
 sheet_at-requires g c =
     let b : Arrays g.row.F.Denot = record { header = c.args.header.now; index = c.args.index.now; figures = c.args.figures.now } in
     rw c.order-order.ensures (lying g.F.Arithmetic.figures b c.args.sheet c.in_ok-place.place c.in_ok-place.ensures)
-
-pub returns : goal.returns
-returns g c =
-    let a = g.F.Arithmetic.figures in
-    let b : Arrays g.row.F.Denot = record { header = c.args.header.now; index = c.args.index.now; figures = c.args.figures.now } in
-    let place = c.in_ok-place.place in
-    cell_read a b c.args.sheet place.0 place.1 c.args.row c.args.column c.in_ok-place.ensures (omega arith) (omega arith) c.cell.result (c.cell.ensures ∙ ap₂ (λ ws fs. table a.ring ws (meanings a fs) c.args.row c.args.column) c.sheet_at.ensures.words c.sheet_at.ensures.figures)

@@ -3,6 +3,8 @@ use Rattle.matrix.specs.Tables.{unit_table}
 use Rattle.sheet.proofs.Diagonals.{unit_length}
 use Rattle.book.specs.Book.{Arrays, sheets_of}
 use Rattle.book.specs.Lines.{guard, full}
+use Rattle.book.specs.Calls.{no_room}
+use Rattle.book.proofs.Early.{early}
 use Rattle.book.proofs.Passing.{guard_passes, granted_both}
 use Rattle.book.proofs.Ends.{end_within, few_from}
 use Rattle.book.proofs.Starts.{few}
@@ -32,6 +34,13 @@ made g c =
       same = refl;
       size_is = sym (unit_length a.ring c.order-order.result);
     }
+
+pub returns-in_err-check_book : goal.returns-in_err-check_book
+returns-in_err-check_book g c =
+    let a = g.F.Arithmetic.figures in
+    let b : Arrays g.row.F.Denot = record { header = c.args.header.now; index = c.args.index.now; figures = c.args.figures.now } in
+    let p = early a b (full (sheets_of b) ∷ (no_room a b (unit_table a.ring) ∷ [])) c.from_residual.result c.in_err-check_book.field-0.0 c.from_residual.ensures.1 c.in_err-check_book.ensures in
+    rw p.1 (p.2, refl)
 
 pub last_end-end-requires : goal.last_end-end-requires
 last_end-end-requires g c = few _ _ c.in_ok-check_book.ensures.header_rules

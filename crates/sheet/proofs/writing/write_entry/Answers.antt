@@ -11,6 +11,12 @@ returns-then-is_zero g c =
       cell = λ off some. absurd (some ((a.ring.tests_zero _).0 (sym c.if-is_zero.ensures)));
     }
 
+pub offset_bounds-index-at : goal.offset_bounds-index-at
+offset_bounds-index-at g c =
+    let a = g.F.Arithmetic.figures in
+    let low : c.args.at < length c.args.index.now = c.requires.room (λ e. omega arith) (iff_false (a.ring.tests_zero _) (sym c.if-is_zero.ensures)) in
+    search rules
+
 pub bounds-index-at : goal.bounds-index-at
 bounds-index-at g c =
     let a = g.F.Arithmetic.figures in
@@ -18,6 +24,18 @@ bounds-index-at g c =
 
 pub offset_bounds-figures-at : goal.offset_bounds-figures-at
 offset_bounds-figures-at g c =
+    let a = g.F.Arithmetic.figures in
+    let low : c.args.at < length c.args.index.now = c.requires.room (λ e. omega arith) (iff_false (a.ring.tests_zero _) (sym c.if-is_zero.ensures)) in
+    search rules
+
+pub bounds-figures-at : goal.bounds-figures-at
+bounds-figures-at g c =
+    let a = g.F.Arithmetic.figures in
+    let low : c.args.at < length c.args.index.now = c.requires.room (λ e. omega arith) (iff_false (a.ring.tests_zero _) (sym c.if-is_zero.ensures)) in
+    search rules
+
+pub overflow_add-result : goal.overflow_add-result
+overflow_add-result g c =
     let a = g.F.Arithmetic.figures in
     let low : c.args.at < length c.args.index.now = c.requires.room (λ e. omega arith) (iff_false (a.ring.tests_zero _) (sym c.if-is_zero.ensures)) in
     search rules
