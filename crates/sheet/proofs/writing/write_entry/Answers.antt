@@ -1,15 +1,6 @@
-use Rattle.std.proofs.Common.{◌<◌, length, sym, refl, arith, rules}
+use Rattle.std.proofs.Common.{◌<◌, length, sym, arith, rules}
 use Rattle.std.proofs.lemmas.Bool.{iff_false}
 use Rattle.sheet.proofs.writing.write_entry.Goals as goal
-
-pub returns-then-is_zero : goal.returns-then-is_zero
-returns-then-is_zero g c =
-    let a = g.F.Arithmetic.figures in
-    record {
-      corner = λ e. absurd (omega arith);
-      nothing = λ off z. (refl, refl, refl);
-      cell = λ off some. absurd (some ((a.ring.tests_zero _).0 (sym c.if-is_zero.ensures)));
-    }
 
 pub offset_bounds-index-at : goal.offset_bounds-index-at
 offset_bounds-index-at g c =
@@ -39,12 +30,3 @@ overflow_add-result g c =
     let a = g.F.Arithmetic.figures in
     let low : c.args.at < length c.args.index.now = c.requires.room (λ e. omega arith) (iff_false (a.ring.tests_zero _) (sym c.if-is_zero.ensures)) in
     search rules
-
-pub returns : goal.returns
-returns g c =
-    let a = g.F.Arithmetic.figures in
-    record {
-      corner = λ e. absurd (omega arith);
-      nothing = λ off z. absurd (iff_false (a.ring.tests_zero _) (sym c.if-is_zero.ensures) z);
-      cell = λ off some. (refl, refl, refl);
-    }
