@@ -1,7 +1,13 @@
--- How many lines of a script are still to be read.
-use Rattle.std.specs.Prelude.{ℕ, length}
-use Rattle.std.specs.Slice.Iter.{iter_rest}
+-- How much of a script is still to be read.
+use Rattle.std.specs.Prelude.{ℕ, ◌+◌, length, Option, None, Some}
+use Rattle.std.specs.Str.Iter.{lines_rest}
+use Rattle.script.specs.declared.lines.Line.{Line}
 use Rattle.script.specs.declared.lines.Lines.{Lines}
 
+-- a line that has been cut counts for one
+abbrev pub held : Option Line → ℕ
+held None = 0
+held (Some line) = 1
+
 abbrev pub left : Lines → ℕ
-left l = length (iter_rest l.rest)
+left l = length (lines_rest l.text) + held l.ahead

@@ -59,7 +59,7 @@ impl<F: Figure> Command<F> {
     }
 
     // The command that a line begins, with what the lines after it give up to `end`.
-    pub(crate) fn read(line: &Line<'_>, lines: &mut Lines<'_, '_>) -> Result<Command<F>, Fault>
+    pub(crate) fn read(line: &Line<'_>, lines: &mut Lines<'_>) -> Result<Command<F>, Fault>
         ensures { left lines.new ≤ left lines.old }
     {
         match line.head {

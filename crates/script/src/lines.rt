@@ -1,11 +1,11 @@
 // The lines of a script and their words.
-ghost use Rattle.std.specs.Prelude.{◌<◌, ◌≤◌, IfSome};
+ghost use Rattle.std.specs.Prelude.{◌≡◌, ◌<◌, ◌≤◌, IfOk, IfSome, None};
 ghost use Rattle.script.specs.Left.{left};
 
 use crate::fault::{Fault, Found};
 use spelling::{Figure, WHOLE_NUMBER, whole_number};
 use std::alloc::{AllocError, Global};
-use std::slice;
+use std::str;
 
 const LARGEST_CAPACITY: u32 = 1_000_000;
 
@@ -108,38 +108,32 @@ impl Line<'_> {
     }
 }
 
-// The lines of a text that count.
-pub(crate) fn cut(heap: Global, text: &str) -> Result<Vec<Line<'_>>, AllocError> {
-    let mut lines = Vec::new(heap);
-    for (i, words) in text.lines().enumerate() {
-        if let Some(line) = Line::cut(heap, i + 1, words)? {
-            lines.push(line)?;
-        }
-    }
-    Ok(lines)
-}
-
 // What the lines after a command give, up to a line `end`.
 pub(crate) trait Given: Drop {
     // Adds what a line gives.
     fn read_line(&mut self, line: &Line<'_>) -> Result<(), Fault>;
 }
 
-// Lines that are read one after the other.
+// The lines of a text that count, read one after the other. Each is cut when its turn comes, and none is kept once it
+// has been read: a list of them all would be several times as large as the text.
 #[derive(Drop)]
-pub(crate) struct Lines<'a, 't> {
-    rest: slice::Iter<'a, Line<'t>>,
-    // The number of the line after the last one of the text.
-    end: usize,
+pub(crate) struct Lines<'t> {
+    // The lines of the text that are left.
+    text: str::Lines<'t>,
+    // How many lines of the text have been passed, with those that do not count.
+    passed: usize,
+    // A line that has been cut and is still to be read.
+    ahead: Option<Line<'t>>,
     // For what is read.
     pub(crate) heap: Global,
 }
 
-impl<'a, 't> Lines<'a, 't> {
-    pub(crate) fn new(heap: Global, lines: &'a [Line<'t>], text: &str) -> Lines<'a, 't> {
+impl<'t> Lines<'t> {
+    pub(crate) fn new(heap: Global, text: &'t str) -> Lines<'t> {
         Lines {
-            rest: lines.iter(),
-            end: text.lines().count().saturating_add(1),
+            text: text.lines(),
+            passed: 0,
+            ahead: None,
             heap,
         }
     }
@@ -147,40 +141,62 @@ impl<'a, 't> Lines<'a, 't> {
     // That there are no more lines where one was expected.
     pub(crate) fn ended(&self, expected: &'static str) -> Fault {
         Fault::Line {
-            number: self.end,
+            number: self.passed.saturating_add(1),
             expected,
             found: Found::EndOfInput,
         }
     }
 
-    pub(crate) fn next_line(&mut self) -> Option<&'a Line<'t>>
-        ensures shorter { IfSome result (λ _. left self.new < left self.old) }
+    // Cuts the next line of the text that counts.
+    fn cut(&mut self) -> Result<Option<Line<'t>>, AllocError>
+        ensures shorter { IfOk result (λ line. IfSome line (λ _. left self.new < left self.old)) }
         ensures no_longer { left self.new ≤ left self.old }
+        ensures ahead { self.new.ahead ≡ self.old.ahead }
     {
-        self.rest.next()
+        while let Some(words) = self.text.next() {
+            self.passed = self.passed.saturating_add(1);
+            let line = Line::cut(self.heap, self.passed, words)?;
+            if line.is_some() {
+                return Ok(line);
+            }
+        }
+        Ok(None)
+    }
+
+    pub(crate) fn next_line(&mut self) -> Result<Option<Line<'t>>, AllocError>
+        ensures shorter { IfOk result (λ line. IfSome line (λ _. left self.new < left self.old)) }
+        ensures no_longer { left self.new ≤ left self.old }
+        ensures ahead { self.new.ahead ≡ None }
+    {
+        match self.ahead.take() {
+            Some(line) => Ok(Some(line)),
+            None => self.cut(),
+        }
     }
 
     // The next line, unless a part begins with it.
-    pub(crate) fn next_of_part(&mut self) -> Option<&'a Line<'t>>
-        ensures shorter { IfSome result (λ _. left self.new < left self.old) }
+    pub(crate) fn next_of_part(&mut self) -> Result<Option<Line<'t>>, AllocError>
+        ensures shorter { IfOk result (λ line. IfSome line (λ _. left self.new < left self.old)) }
         ensures no_longer { left self.new ≤ left self.old }
     {
-        match self.rest.as_slice().first() {
-            Some(line) if line.begins_part() => None,
-            _ => self.next_line(),
+        let line = self.next_line()?;
+        if line.as_ref().is_some_and(|line| line.begins_part()) {
+            self.ahead = line;
+            return Ok(None);
         }
+        Ok(line)
     }
 
     // Adds what the lines up to `end` give.
     pub(crate) fn read_up_to_end<G: Given>(&mut self, mut given: G) -> Result<G, Fault>
         ensures { left self.new ≤ left self.old }
     {
-        while let Some(line) = self.next_line() {
+        while let Some(line) = self.next_line()? {
             if line.head == "end" {
                 line.ends_after(0)?;
                 return Ok(given);
             }
-            given.read_line(line)?;
+            given.read_line(&line)?;
         }
         Err(self.ended("'end'"))
     }

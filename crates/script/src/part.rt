@@ -4,7 +4,7 @@ ghost use Rattle.script.specs.Left.{left};
 
 use crate::command::Command;
 use crate::fault::Fault;
-use crate::lines::{Line, Lines, cut};
+use crate::lines::{Line, Lines};
 use arithmetic::{Amount, Block, Wait, YesNo};
 use spelling::Figure;
 use std::alloc::Global;
@@ -22,19 +22,19 @@ pub enum Part {
 }
 
 // The commands up to the next part.
-fn read_commands<F: Figure>(lines: &mut Lines<'_, '_>) -> Result<Vec<Command<F>>, Fault>
+fn read_commands<F: Figure>(lines: &mut Lines<'_>) -> Result<Vec<Command<F>>, Fault>
     ensures { left lines.new ≤ left lines.old }
 {
     let mut commands = Vec::new(lines.heap);
-    while let Some(line) = lines.next_of_part() {
-        commands.push(Command::read(line, lines)?)?;
+    while let Some(line) = lines.next_of_part()? {
+        commands.push(Command::read(&line, lines)?)?;
     }
     Ok(commands)
 }
 
 impl Part {
     // The part that a line `arithmetic NAME` begins.
-    fn read(line: &Line<'_>, lines: &mut Lines<'_, '_>) -> Result<Part, Fault>
+    fn read(line: &Line<'_>, lines: &mut Lines<'_>) -> Result<Part, Fault>
         ensures { left lines.new ≤ left lines.old }
     {
         if !line.begins_part() {
@@ -56,11 +56,10 @@ impl Part {
 pub fn read(heap: Global, text: &str) -> Result<Vec<Part>, Fault>
     ensures { IfOk result (λ parts. 0 < vec_len parts) }
 {
-    let lines = cut(heap, text)?;
-    let mut lines = Lines::new(heap, lines.as_slice(), text);
+    let mut lines = Lines::new(heap, text);
     let mut parts: Vec<Part> = Vec::new(heap);
-    while let Some(line) = lines.next_line() {
-        parts.push(Part::read(line, &mut lines)?)?;
+    while let Some(line) = lines.next_line()? {
+        parts.push(Part::read(&line, &mut lines)?)?;
     }
     if parts.is_empty() {
         return Err(lines.ended(ARITHMETIC));
