@@ -63,6 +63,10 @@ pub fn check_sheet<F: Arithmetic>(
         }
     }
     for row in 0..order {
+        // No cell is left where a row begins at the end.
+        if words[row] as usize == words.len() {
+            break;
+        }
         for p in words[row] as usize..words[row + 1] as usize {
             if !cell_keeps(order, words, figures, row, p) {
                 return Err(Refusal::Position(start + p));

@@ -42,8 +42,8 @@ loop-row-preserved g c =
     let e : c.loop-p-2.p ≡ slice_index c.args.words.now (c.loop-row.row + 1) = omega arith in
     record { past = omega arith; within = omega (arith, w.within); row = omega arith; from = omega arith; keep = λ j h. w.keep j (omega arith) }
 
-pub returns : goal.returns
-returns g c =
+pub returns-after-loop-row : goal.returns-after-loop-row
+returns-after-loop-row g c =
     let w = c.loop-row.invariant in
     let past = w.past in
     let e : c.loop-row.row ≡ c.args.order = omega arith in
