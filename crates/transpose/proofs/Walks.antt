@@ -78,8 +78,12 @@ module _ {S : Type 0} {a : Figures S} {n : ℕ} {ws : List ℕ} {fs : List S} {d
               (cases_eq c k)
 
   -- every cell is moved
+  pub walking_over : (d' : List ℕ) (e' : List S) (next : List ℕ) → Walking a n ws fs d e (length ws) d' e' next → Written a n (flipped_table a ws fs) d e d' e'
+  walking_over d' e' next w =
+      turned_all a n w.flip.small (flipped_table a ws fs) d e (fits w.flip) w.flip.even d' e' next w.turned
+      (λ c h. w.next_is c h ∙ ap (λ x. row_start a.ring n (flipped_table a ws fs) c + x) (hits_all a.ring n ws (meanings a fs) w.flip.sound c))
+
   pub walking_done : (d' : List ℕ) (e' : List S) (next : List ℕ) → Walking a n ws fs d e (get_or ws n 0) d' e' next → Written a n (flipped_table a ws fs) d e d' e'
   walking_done d' e' next w =
       let last = ((w.flip.sound.rules n w.flip.sound.room).head (omega arith)).last refl in
-      turned_all a n w.flip.small (flipped_table a ws fs) d e (fits w.flip) w.flip.even d' e' next w.turned
-      (λ c h. w.next_is c h ∙ ap (λ x. row_start a.ring n (flipped_table a ws fs) c + x) (ap (λ x. hits ws c (n + 1) (x - (n + 1))) last ∙ hits_all a.ring n ws (meanings a fs) w.flip.sound c))
+      walking_over d' e' next (rw last at w)

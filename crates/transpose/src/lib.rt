@@ -86,6 +86,10 @@ pub fn write_flipped<F: Arithmetic>(sheet: &Sheet<'_, F>, index: &mut [u32], fig
     let mut next = count_columns(sheet);
     write_head(sheet, index, figures, &mut next);
     for row in 0..sheet.order {
+        // No cell is left where a row begins at the end.
+        if sheet.words[row] as usize == sheet.words.len() {
+            break;
+        }
         for (column, figure) in sheet.cells(row) {
             move_cell(index, figures, &mut next, *column as usize, row, *figure);
         }

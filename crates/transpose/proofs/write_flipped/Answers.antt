@@ -1,9 +1,9 @@
-use Rattle.std.proofs.Common.{◌≡◌, length, arith, rules}
+use Rattle.std.proofs.Common.{◌≡◌, length, get_or, arith, rules}
 use Rattle.arithmetic.specs.Semiring.{meanings}
 use Rattle.sheet.proofs.Known.{sheet_sound}
 use Rattle.sheet.proofs.Cells.{Turn, next_place, cells_turn, cells_end}
 use Rattle.transpose.proofs.Hits.{hits_all}
-use Rattle.transpose.proofs.Walks.{walking_none, walking_cell, walking_done, place_free}
+use Rattle.transpose.proofs.Walks.{walking_none, walking_cell, walking_over, walking_done, place_free}
 use Rattle.transpose.proofs.write_flipped.Given.{Over}
 use Rattle.transpose.proofs.write_flipped.Goals.{In-Some}
 use Rattle.transpose.proofs.write_flipped.Goals as goal
@@ -49,7 +49,13 @@ loop-row-preserved g c =
     let end = cells_end c.args.sheet.now c.loop-row.row (omega arith) c.loop-column.yielded c.into_iter-column-iterator.result c.loop-column.column-iterator c.next.new.self c.next.result (search rules) (search rules) c.loop-column.yielded_by c.next.ensures.steps c.in-None.is in
     rw end at c.loop-column.invariant
 
-pub returns : goal.returns
-returns g c =
+pub returns-then-sheet-row : goal.returns-then-sheet-row
+returns-then-sheet-row g c =
+    let words = c.args.sheet.now.words.now in
+    let none_left : get_or words c.loop-row.row 0 ≡ length words = omega arith in
+    walking_over c.loop-row.index c.loop-row.figures c.loop-row.next (rw none_left at c.loop-row.invariant)
+
+pub returns-after-loop-row : goal.returns-after-loop-row
+returns-after-loop-row g c =
     let all : c.loop-row.row ≡ c.args.sheet.now.order = omega arith in
     walking_done c.loop-row.index c.loop-row.figures c.loop-row.next (rw all at c.loop-row.invariant)
